@@ -1,0 +1,109 @@
+-- The table of field kinds, looked up. Assumes nothing.
+use Prim.Native.Nat.{ℕ, _≤_, _<_}
+use mathlib.Core.Path.{_≡_, refl}
+use mathlib.Core.Bool.{Bool, true, false, cond, _&&_}
+use mathlib.Core.List.{List, [], _∷_}
+use mathlib.Core.Logic.{⊎-elim}
+use native.Mathlib.Nat.{eq-or-lt-of-le, le-antisymm}
+use native.Mathlib.Omega.{arith}
+use lib.Dec.{eqb, leb}
+use borrow.Author.Tests.{ne-eqb, le-leb, lt-leb, leb-true}
+use Rattle.header.specs.Kinds.{Row, row, kinds, permit, kindIn, kindOf, Permitted}
+use Rattle.header.specs.declared.kind.FieldKind.{FieldKind}
+use Rattle.header.specs.declared.kind.FieldKind.the-variants.{Text, Date, Short, Long, Number, Logical, Blob}
+use Rattle.header.specs.declared.kind.Known.{Known}
+use Rattle.header.specs.declared.kind.Known.the-variants.{Kind, Unknown}
+
+-- ---- a width within its limits, or not
+
+pub permit-within : (kind : FieldKind) (width least most : ℕ) → least ≤ width → width ≤ most → permit kind width least most ≡ Kind kind
+unfolding permit
+permit-within kind width least most l m = rw (le-leb least width l, le-leb width most m)
+
+pub permit-narrow : (kind : FieldKind) (width least most : ℕ) → width < least → permit kind width least most ≡ Unknown
+unfolding permit
+permit-narrow kind width least most l = rw (lt-leb least width l)
+
+pub permit-wide : (kind : FieldKind) (width least most : ℕ) → most < width → permit kind width least most ≡ Unknown
+unfolding permit
+permit-wide kind width least most m = go (leb least width)
+  where
+    go : (t : Bool) → cond (t && leb width most) (Kind kind) Unknown ≡ Unknown
+    go true = rw (lt-leb width most m)
+    go false = refl
+
+-- ---- a code's row
+
+-- the codes from 0D to 10 are blobs of width 10 to 250
+pub blob-codes : (code width : ℕ) → 0x0D ≤ code → code ≤ 0x10 → kindOf code width ≡ permit Blob width 10 250
+unfolding kindOf kindIn kinds
+blob-codes code width low high = ⊎-elim (λ e. rw (← e)) more (eq-or-lt-of-le low)
+  where
+    last : 0x0F < code → kindOf code width ≡ permit Blob width 10 250
+    last l = let e : code ≡ 0x10 = omega arith in rw e
+
+    third : 0x0E < code → kindOf code width ≡ permit Blob width 10 250
+    third l = ⊎-elim (λ e. rw (← e)) last (eq-or-lt-of-le l)
+
+    more : 0x0D < code → kindOf code width ≡ permit Blob width 10 250
+    more l = ⊎-elim (λ e. rw (← e)) third (eq-or-lt-of-le l)
+
+-- a code that no row has
+pub unknown-code : (code width : ℕ) →
+    (code ≡ 0x01 → ⊥) → (code ≡ 0x02 → ⊥) → (code ≡ 0x03 → ⊥) → (code ≡ 0x04 → ⊥) → (code ≡ 0x05 → ⊥) → (code ≡ 0x06 → ⊥) → (code ≡ 0x09 → ⊥) → (code ≡ 0x0C → ⊥) → (0x0D ≤ code → code ≤ 0x10 → ⊥) → kindOf code width ≡ Unknown
+unfolding kindOf kindIn kinds
+unknown-code code width n1 n2 n3 n4 n5 n6 n9 nC blobs =
+    let no : (k : ℕ) → 0x0D ≤ k → k ≤ 0x10 → eqb code k ≡ false = λ k l h. ne-eqb code k (λ e. blobs (omega arith) (omega arith)) in
+    simp (ne-eqb code 0x01 n1, ne-eqb code 0x02 n2, ne-eqb code 0x03 n3, ne-eqb code 0x04 n4, ne-eqb code 0x05 n5, ne-eqb code 0x06 n6, ne-eqb code 0x09 n9, ne-eqb code 0x0C nC, no 0x0D (omega arith) (omega arith), no 0x0E (omega arith) (omega arith), no 0x0F (omega arith) (omega arith), no 0x10 (omega arith) (omega arith))
+
+-- ---- what a kind says of the width
+
+permit-gives : (kind found : FieldKind) (width least most : ℕ) → permit kind width least most ≡ Kind found → (kind ≡ found) × (least ≤ width) × (width ≤ most)
+unfolding permit
+permit-gives kind found width least most e = go (leb least width) refl (leb width most) refl e
+  where
+    go : (p : Bool) → leb least width ≡ p → (q : Bool) → leb width most ≡ q → cond (p && q) (Kind kind) Unknown ≡ Kind found → (kind ≡ found) × (least ≤ width) × (width ≤ most)
+    go true a true b f = (cc, leb-true least width a, leb-true width most b)
+    go true a false b f = let z : _≡_ {A = ℕ} 0 1 = cc in absurd (omega arith)
+    go false a q b f = let z : _≡_ {A = ℕ} 0 1 = cc in absurd (omega arith)
+
+-- what every row permits
+Every : (FieldKind → ℕ → Type 0) → List Row → Type 0
+Every holds [] = Unit
+Every holds (row code kind least most ∷ rows) = ((width : ℕ) → least ≤ width → width ≤ most → holds kind width) × Every holds rows
+
+in-rows : (holds : FieldKind → ℕ → Type 0) (rows : List Row) → Every holds rows → (code width : ℕ) (kind : FieldKind) → kindIn rows code width ≡ Kind kind → holds kind width
+unfolding Every kindIn
+in-rows holds [] all code width kind e = let z : _≡_ {A = ℕ} 0 1 = cc in absurd (omega arith)
+in-rows holds (row its k least most ∷ rows) all code width kind e = go (eqb code its) e (in-rows holds rows (all .1) code width kind)
+  where
+    go : (b : Bool) → cond b (permit k width least most) (kindIn rows code width) ≡ Kind kind → (kindIn rows code width ≡ Kind kind → holds kind width) → holds kind width
+    go true f ih =
+        let p = permit-gives k kind width least most f in
+        rw (p .0) at (all .0 width (p .1) (p .2))
+    go false f ih = ih f
+
+-- a pair that the table has is of a width that its kind permits
+pub kind-width : (code width : ℕ) (kind : FieldKind) → kindOf code width ≡ Kind kind → Permitted kind width
+unfolding kindOf kinds Permitted Every
+kind-width code width kind e =
+    let only : (n w : ℕ) → n ≤ w → w ≤ n → w ≡ n = λ n w l m. le-antisymm m l in
+    in-rows Permitted kinds (λ w l m. (l, m), (only 4, (only 2, (only 4, (only 8, (only 8, (only 1, (λ w l m. (omega arith, m), (λ w l m. (l, m), (λ w l m. (l, m), (λ w l m. (l, m), (λ w l m. (l, m), tt)))))))))))) code width kind e
+
+-- no kind permits a width of 0
+permitted-some : (kind : FieldKind) (width : ℕ) → Permitted kind width → 1 ≤ width
+unfolding Permitted
+permitted-some Text w p = p .0
+permitted-some Date w p = omega arith
+permitted-some Short w p = omega arith
+permitted-some Long w p = omega arith
+permitted-some Number w p = omega arith
+permitted-some Logical w p = omega arith
+permitted-some Blob w p = omega arith
+
+pub known-width : (code width : ℕ) → (kindOf code width ≡ Unknown → ⊥) → 1 ≤ width
+known-width code width h = go (kindOf code width) refl
+  where
+    go : (k : Known) → kindOf code width ≡ k → 1 ≤ width
+    go Unknown e = absurd (h e)
+    go (Kind kind) e = permitted-some kind width (kind-width code width kind e)

@@ -1,0 +1,6 @@
+pub mod KindLaws
+pub mod FieldLaws
+pub mod NameLaws
+pub mod HeaderLaws
+pub mod RuleLaws
+pub mod AcceptedLaws

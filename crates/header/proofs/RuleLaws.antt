@@ -1,0 +1,263 @@
+-- The rules as tests are the rules as propositions: the answer is 0 exactly when HeaderRules holds. Assumes nothing.
+use Prim.Native.Nat.{ℕ, zero, suc, _+_, _*_, _≤_, _<_}
+use mathlib.Core.Path.{_≡_, refl, ap}
+use mathlib.Core.Bool.{Bool, true, false, cond, not, _&&_, _||_, and-eq-true-iff, false≢true}
+use mathlib.Core.List.{List}
+use mathlib.Core.Logic.{_⊎_, inl, inr}
+use native.Mathlib.Nat.{add-zero, not-suc-le-zero}
+use native.Mathlib.Omega.{arith}
+use lib.Dec.{eqb, leb, ltb}
+use lib.ListN.{length}
+use borrow.Author.Tests.{eq-eqb, ne-eqb, eqb-true, eqb-false, le-leb, lt-leb, leb-true, leb-false, lt-ltb, ltb-true, not-true}
+use Rattle.words.specs.Each.{each}
+use Rattle.words.specs.Numbers.{byte}
+use Rattle.words.proofs.EachLaws.{each-gives, each-takes}
+use Rattle.header.specs.Kinds.{isBlob}
+use Rattle.header.specs.Stored.{storedOf, blockSize, encryptionAt, areaAt, namesAt}
+use Rattle.header.specs.Fields.{allowed, kindAt, pairRight, widthSum, beforeZero, nameLength, nameFits, namesFit, fieldsRight}
+use Rattle.header.specs.Header.{longEnough, isTable, knownVersion, plain, keyedRight, limitsKept, lengthRight, headerAnswer}
+use Rattle.header.specs.Rules.{Limits, Names, none, some, FieldRules, HeaderRules}
+use Rattle.header.specs.declared.stored.Stored.{Stored}
+use Rattle.header.specs.declared.kind.FieldKind.{FieldKind}
+use Rattle.header.specs.declared.kind.FieldKind.the-variants.{Text, Date, Short, Long, Number, Logical, Blob}
+use Rattle.header.specs.declared.kind.Known.{Known}
+use Rattle.header.specs.declared.kind.Known.the-variants.{Kind, Unknown}
+
+-- both halves of a conjunction, and back
+both : {a b : Bool} → (a && b) ≡ true → (a ≡ true) × (b ≡ true)
+both {a} {b} e = and-eq-true-iff a b .0 e
+
+join : {a b : Bool} → a ≡ true → b ≡ true → (a && b) ≡ true
+join {a} {b} p q = and-eq-true-iff a b .1 (p, q)
+
+-- ---- 4
+
+pub encryption-most : (version : ℕ) → encryptionAt version ≤ 0x5C
+encryption-most version = go (leb version 0x04)
+  where
+    go : (b : Bool) → cond b 0x25 0x5C ≤ 0x5C
+    go true = omega arith
+    go false = omega arith
+
+plain-gives : (t : List ℕ) (at : ℕ) → plain t at ≡ true → (i : ℕ) → i < 4 → byte t (at + i) ≡ 0
+unfolding plain
+plain-gives t at e i l = eqb-true (byte t (at + i)) 0 (each-gives (λ (k : ℕ). eqb (byte t (at + k)) 0) 4 e i l)
+
+plain-takes : (t : List ℕ) (at : ℕ) → ((i : ℕ) → i < 4 → byte t (at + i) ≡ 0) → plain t at ≡ true
+unfolding plain
+plain-takes t at h = each-takes (λ (k : ℕ). eqb (byte t (at + k)) 0) 4 (λ i l. eq-eqb (byte t (at + i)) 0 (h i l))
+
+-- ---- 5
+
+-- byte 04 and the sort byte, with key fields and without
+keyed-gives : (s : Stored) → 1 ≤ s .keys → keyedRight s ≡ true → (s .kind ≡ 0) × (s .sort ≡ 0)
+unfolding keyedRight
+keyed-gives s l e =
+    let p = both (rw (le-leb 1 (s .keys) l) at e) in
+    (eqb-true (s .kind) 0 (p .0), eqb-true (s .sort) 0 (p .1))
+
+unkeyed-gives : (s : Stored) → s .keys < 1 → keyedRight s ≡ true → s .kind ≡ 0 → ⊥
+unfolding keyedRight
+unkeyed-gives s l e = eqb-false (s .kind) 0 (not-true (eqb (s .kind) 0) (rw (lt-leb 1 (s .keys) l) at e))
+
+keyed-by-byte : (s : Stored) → keyedRight s ≡ true → s .kind ≡ 0 → 1 ≤ s .keys
+keyed-by-byte s e z = go (leb 1 (s .keys)) refl
+  where
+    go : (b : Bool) → leb 1 (s .keys) ≡ b → 1 ≤ s .keys
+    go true f = leb-true 1 (s .keys) f
+    go false f = absurd (unkeyed-gives s (leb-false 1 (s .keys) f) e z)
+
+keyed-takes : (s : Stored) → Limits s → keyedRight s ≡ true
+unfolding keyedRight
+keyed-takes s l = go (leb 1 (s .keys)) refl
+  where
+    go : (b : Bool) → leb 1 (s .keys) ≡ b → cond b (eqb (s .kind) 0 && eqb (s .sort) 0) (not (eqb (s .kind) 0)) ≡ true
+    go true f = let k = leb-true 1 (s .keys) f in join (eq-eqb (s .kind) 0 (l .byte-by-keyed k)) (eq-eqb (s .sort) 0 (l .plain-order k))
+    go false f = rw (ne-eqb (s .kind) 0 (λ z. absurd (omega (arith, l .keyed-by-byte z, leb-false 1 (s .keys) f))))
+
+pub limits-give : (s : Stored) → limitsKept s ≡ true → Limits s
+unfolding limitsKept
+limits-give s e =
+    let p10 = both e in
+    let p9 = both (p10 .0) in
+    let p8 = both (p9 .0) in
+    let p7 = both (p8 .0) in
+    let p6 = both (p7 .0) in
+    let p5 = both (p6 .0) in
+    let p4 = both (p5 .0) in
+    let p3 = both (p4 .0) in
+    let p2 = both (p3 .0) in
+    let p1 = both (p2 .0) in
+    record {
+      units-least = leb-true 1 (s .units) (p1 .0);
+      units-most = leb-true (s .units) 4 (p1 .1);
+      size-least = leb-true 1 (s .size) (p2 .1);
+      size-most = leb-true (s .size + 6) (blockSize s) (p3 .1);
+      header-least = leb-true 120 (s .header) (p4 .1);
+      blocks-most = leb-true (s .blocks) 32767 (p5 .1);
+      fields-least = leb-true 1 (s .fields) (p6 .1);
+      fields-most = leb-true (s .fields) 255 (p7 .1);
+      keys-most = leb-true (s .keys) (s .fields) (p8 .1);
+      records-most = leb-true (s .records) 2147483647 (p9 .1);
+      keyed-by-byte = keyed-by-byte s (p10 .1);
+      byte-by-keyed = λ l. keyed-gives s l (p10 .1) .0;
+      plain-order = λ l. keyed-gives s l (p10 .1) .1;
+    }
+
+limits-take : (s : Stored) → Limits s → limitsKept s ≡ true
+unfolding limitsKept
+limits-take s l =
+    join (join (join (join (join (join (join (join (join (join (le-leb 1 (s .units) (l .units-least)) (le-leb (s .units) 4 (l .units-most))) (le-leb 1 (s .size) (l .size-least))) (le-leb (s .size + 6) (blockSize s) (l .size-most))) (le-leb 120 (s .header) (l .header-least))) (le-leb (s .blocks) 32767 (l .blocks-most))) (le-leb 1 (s .fields) (l .fields-least))) (le-leb (s .fields) 255 (l .fields-most))) (le-leb (s .keys) (s .fields) (l .keys-most))) (le-leb (s .records) 2147483647 (l .records-most))) (keyed-takes s l)
+
+-- ---- 7: pairs
+
+allowed-unknown : (keyed : Bool) (k : Known) → allowed keyed k ≡ true → k ≡ Unknown → ⊥
+unfolding allowed
+allowed-unknown keyed k e f = false≢true (rw f at e)
+
+allowed-blob : (k : Known) → allowed true k ≡ true → k ≡ Kind Blob → ⊥
+unfolding allowed isBlob
+allowed-blob k e f = false≢true (rw f at e)
+
+-- a kind that the table has is allowed, but for a blob in the key
+not-blob : (kind : FieldKind) → (kind ≡ Blob → ⊥) → isBlob kind ≡ false
+unfolding isBlob
+not-blob Text h = refl
+not-blob Date h = refl
+not-blob Short h = refl
+not-blob Long h = refl
+not-blob Number h = refl
+not-blob Logical h = refl
+not-blob Blob h = absurd (h refl)
+
+allowed-takes : (keyed : Bool) (k : Known) → (k ≡ Unknown → ⊥) → (keyed ≡ true → k ≡ Kind Blob → ⊥) → allowed keyed k ≡ true
+unfolding allowed
+allowed-takes keyed Unknown h g = absurd (h refl)
+allowed-takes false (Kind kind) h g = refl
+allowed-takes true (Kind kind) h g = rw (not-blob kind (λ e. g refl (ap Kind e)))
+
+-- ---- 7: names
+
+-- the bytes before the first zero are no zeros, and the zero ends them
+before-nonzero : (t : List ℕ) (at m i : ℕ) → i < beforeZero t at m → byte t (at + i) ≡ 0 → ⊥
+unfolding beforeZero
+before-nonzero t at zero i l z = not-suc-le-zero l
+before-nonzero t at (suc m) i l z = go (eqb (byte t at) 0) refl i l z (before-nonzero t (suc at) m)
+  where
+    go : (b : Bool) → eqb (byte t at) 0 ≡ b → (i : ℕ) → i < cond b 0 (suc (beforeZero t (suc at) m)) → byte t (at + i) ≡ 0 → ((j : ℕ) → j < beforeZero t (suc at) m → byte t (suc at + j) ≡ 0 → ⊥) → ⊥
+    go true e i l z ih = not-suc-le-zero l
+    go false e zero l z ih = eqb-false (byte t at) 0 e (rw add-zero at z)
+    go false e (suc j) l z ih = let f : at + suc j ≡ suc at + j = omega arith in ih j (omega arith) (rw f at z)
+
+before-zero : (t : List ℕ) (at m : ℕ) → beforeZero t at m < m → byte t (at + beforeZero t at m) ≡ 0
+unfolding beforeZero
+before-zero t at zero l = absurd (not-suc-le-zero l)
+before-zero t at (suc m) l = go (eqb (byte t at) 0) refl l (before-zero t (suc at) m)
+  where
+    go : (b : Bool) → eqb (byte t at) 0 ≡ b → cond b 0 (suc (beforeZero t (suc at) m)) < suc m → (beforeZero t (suc at) m < m → byte t (suc at + beforeZero t (suc at) m) ≡ 0) → byte t (at + cond b 0 (suc (beforeZero t (suc at) m))) ≡ 0
+    go true e l ih = rw add-zero (eqb-true (byte t at) 0 e)
+    go false e l ih = let f : at + suc (beforeZero t (suc at) m) ≡ suc at + beforeZero t (suc at) m = omega arith in rw f (ih (omega arith))
+
+-- a name of l bytes has that length
+before-is : (t : List ℕ) (at m l : ℕ) → l < m → ((i : ℕ) → i < l → byte t (at + i) ≡ 0 → ⊥) → byte t (at + l) ≡ 0 → beforeZero t at m ≡ l
+unfolding beforeZero
+before-is t at zero l k h z = absurd (not-suc-le-zero k)
+before-is t at (suc m) zero k h z = rw (eq-eqb (byte t at) 0 (rw add-zero at z))
+before-is t at (suc m) (suc l) k h z =
+    let f : at + suc l ≡ suc at + l = omega arith in
+    let n : byte t at ≡ 0 → ⊥ = λ e. h 0 (omega arith) (rw add-zero e) in
+    rw (ne-eqb (byte t at) 0 n)
+    (ap suc (before-is t (suc at) m l (omega arith) (λ i j y. h (suc i) (omega arith) (let g : at + suc i ≡ suc at + i = omega arith in rw g y)) (rw f at z)))
+
+names-give : (t : List ℕ) (end n at : ℕ) → namesFit t end n at ≡ true → Names t end n at
+unfolding namesFit nameFits
+names-give t end zero at e = none
+names-give t end (suc n) at e =
+    let p = and-eq-true-iff (leb 1 (nameLength t at) && leb (nameLength t at) 25 && ltb (at + nameLength t at) end) (namesFit t end n (at + nameLength t at + 1)) .0 e in
+    let q = and-eq-true-iff (leb 1 (nameLength t at) && leb (nameLength t at) 25) (ltb (at + nameLength t at) end) .0 (p .0) in
+    let r = and-eq-true-iff (leb 1 (nameLength t at)) (leb (nameLength t at) 25) .0 (q .0) in
+    let most = leb-true (nameLength t at) 25 (r .1) in
+    some
+    (record {
+      least = leb-true 1 (nameLength t at) (r .0);
+      most = most;
+      nonzero = λ i l. before-nonzero t at 26 i l;
+      ended = before-zero t at 26 (omega arith);
+    })
+    (ltb-true (at + nameLength t at) end (q .1))
+    (names-give t end n (at + nameLength t at + 1) (p .1))
+
+names-take : (t : List ℕ) (end n at : ℕ) → Names t end n at → namesFit t end n at ≡ true
+unfolding namesFit nameFits
+names-take t end zero at none = refl
+names-take t end (suc n) at (some {l = l} name inside rest) =
+    let e : nameLength t at ≡ l = before-is t at 26 l (omega (arith, name .most)) (name .nonzero) (name .ended) in
+    rw (e, le-leb 1 l (name .least), le-leb l 25 (name .most), lt-ltb (at + l) end inside) (names-take t end n (at + l + 1) rest)
+
+-- ---- 7
+
+fields-give : (t : List ℕ) (s : Stored) → s .keys ≤ s .fields → fieldsRight t s ≡ true → FieldRules t s
+unfolding fieldsRight
+fields-give t s k e =
+    let area = areaAt (s .version) in
+    let p = and-eq-true-iff (each (pairRight t area (s .keys)) (s .fields) && eqb (widthSum t area (s .fields)) (s .size)) (namesFit t (s .header) (s .fields) (namesAt s)) .0 e in
+    let q = and-eq-true-iff (each (pairRight t area (s .keys)) (s .fields)) (eqb (widthSum t area (s .fields)) (s .size)) .0 (p .0) in
+    record {
+      pairs = λ f l. allowed-unknown (ltb f (s .keys)) (kindAt t area f) (each-gives (pairRight t area (s .keys)) (s .fields) (q .0) f l);
+      keys = λ f l. allowed-blob (kindAt t area f) (rw (lt-ltb f (s .keys) l) at (each-gives (pairRight t area (s .keys)) (s .fields) (q .0) f (omega arith)));
+      widths = eqb-true (widthSum t area (s .fields)) (s .size) (q .1);
+      names = names-give t (s .header) (s .fields) (namesAt s) (p .1);
+    }
+
+fields-take : (t : List ℕ) (s : Stored) → FieldRules t s → fieldsRight t s ≡ true
+unfolding fieldsRight
+fields-take t s r =
+    let area = areaAt (s .version) in
+    let a : each (pairRight t area (s .keys)) (s .fields) ≡ true = each-takes (pairRight t area (s .keys)) (s .fields) (λ f l. allowed-takes (ltb f (s .keys)) (kindAt t area f) (r .pairs f l) (λ k. r .keys f (ltb-true f (s .keys) k))) in
+    rw (a, eq-eqb (widthSum t area (s .fields)) (s .size) (r .widths), names-take t (s .header) (s .fields) (namesAt s) (r .names))
+
+-- ---- all seven
+
+-- a kept rule leaves the answer to the rules after it; a broken one with a number above 0 gives that number
+kept-of : (b : Bool) (n rest : ℕ) → cond b rest (suc n) ≡ 0 → (b ≡ true) × (rest ≡ 0)
+kept-of true n rest e = (refl, e)
+kept-of false n rest e = absurd (let z : _≡_ {A = ℕ} 0 1 = cc in omega arith)
+
+pub answer-gives : (t : List ℕ) → headerAnswer t ≡ 0 → HeaderRules t
+unfolding headerAnswer longEnough knownVersion lengthRight isTable
+answer-gives t e =
+    let s = storedOf t in
+    let p1 = kept-of (longEnough t) 0 _ e in
+    let p2 = kept-of (isTable s) 1 _ (p1 .1) in
+    let p3 = kept-of (knownVersion s) 2 _ (p2 .1) in
+    let p4 = kept-of (plain t (encryptionAt (s .version))) 3 _ (p3 .1) in
+    let p5 = kept-of (limitsKept s) 4 _ (p4 .1) in
+    let p6 = kept-of (lengthRight (length t) s) 5 _ (p5 .1) in
+    let p7 = kept-of (fieldsRight t s) 6 0 (p6 .1) in
+    let v = and-eq-true-iff (leb 3 (s .version)) (leb (s .version) 11) .0 (p3 .0) in
+    let l = limits-give s (p5 .0) in
+    record {
+      long = leb-true 120 (length t) (p1 .0);
+      kind = either (eqb (s .kind) 0) refl (p2 .0);
+      version-least = leb-true 3 (s .version) (v .0);
+      version-most = leb-true (s .version) 11 (v .1);
+      plain = plain-gives t (encryptionAt (s .version)) (p4 .0);
+      limits = l;
+      whole = eqb-true (length t) (s .header + s .blocks * blockSize s) (p6 .0);
+      fields = fields-give t s (l .keys-most) (p7 .0);
+    }
+  where
+    either : (b : Bool) → eqb (storedOf t .kind) 0 ≡ b → (b || eqb (storedOf t .kind) 2) ≡ true → (storedOf t .kind ≡ 0) ⊎ (storedOf t .kind ≡ 2)
+    either true e f = inl (eqb-true (storedOf t .kind) 0 e)
+    either false e f = inr (eqb-true (storedOf t .kind) 2 f)
+
+is-table : (s : Stored) → (s .kind ≡ 0) ⊎ (s .kind ≡ 2) → isTable s ≡ true
+unfolding isTable
+is-table s (inl e) = rw e
+is-table s (inr e) = rw e
+
+pub answer-takes : (t : List ℕ) → HeaderRules t → headerAnswer t ≡ 0
+unfolding headerAnswer longEnough knownVersion lengthRight
+answer-takes t r =
+    let s = storedOf t in
+    rw (le-leb 120 (length t) (r .long), is-table s (r .kind), le-leb 3 (s .version) (r .version-least), le-leb (s .version) 11 (r .version-most), plain-takes t (encryptionAt (s .version)) (r .plain), limits-take s (r .limits), eq-eqb (length t) (s .header + s .blocks * blockSize s) (r .whole), fields-take t s (r .fields))

@@ -1,0 +1,22 @@
+-- `accepted` meets its contract, number by number. Assumes nothing.
+use Rattle.header.specs.Header.{acceptedWith}
+use borrow.Author.Needs.{needs}
+use Rattle.header.proofs.accepted.Statement.{statement}
+use Rattle.header.proofs.accepted.Tie as tie
+
+block-bytes-requires : tie.Need-block-bytes-requires
+block-bytes-requires c κs = search needs
+
+area-at-requires : tie.Need-area-at-requires
+area-at-requires c κs = search needs
+
+names-at-requires : tie.Need-names-at-requires
+names-at-requires c κs = search needs
+
+returns : tie.Need-returns
+unfolding acceptedWith
+returns c = cc
+
+pub accepted-spec : {M : Type 1} → statement M
+accepted-spec =
+    tie.close (tie.spec block-bytes-requires area-at-requires names-at-requires returns)

@@ -1,0 +1,11 @@
+-- `refused` meets its contract. Assumes nothing.
+use Rattle.header.specs.Header.{refusedWith}
+use Rattle.header.proofs.refused.Statement.{statement}
+use Rattle.header.proofs.refused.Tie as tie
+
+returns : tie.Need-returns
+unfolding refusedWith
+returns c = cc
+
+pub refused-spec : {M : Type 1} → statement M
+refused-spec = tie.close (tie.spec returns)

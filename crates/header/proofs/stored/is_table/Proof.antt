@@ -1,0 +1,11 @@
+-- `is_table` meets its contract. Assumes nothing.
+use Rattle.header.specs.Header.{isTable}
+use Rattle.header.proofs.stored.is_table.Statement.{statement}
+use Rattle.header.proofs.stored.is_table.Tie as tie
+
+returns : tie.Need-returns
+unfolding isTable
+returns c = cc
+
+pub is-table-spec : {M : Type 1} → statement M
+is-table-spec = tie.close (tie.spec returns)

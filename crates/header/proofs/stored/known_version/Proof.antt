@@ -1,0 +1,11 @@
+-- `known_version` meets its contract. Assumes nothing.
+use Rattle.header.specs.Header.{knownVersion}
+use Rattle.header.proofs.stored.known_version.Statement.{statement}
+use Rattle.header.proofs.stored.known_version.Tie as tie
+
+returns : tie.Need-returns
+unfolding knownVersion
+returns c = cc
+
+pub known-version-spec : {M : Type 1} → statement M
+known-version-spec = tie.close (tie.spec returns)

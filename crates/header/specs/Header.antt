@@ -1,0 +1,170 @@
+-- Table rules 1 to 7, tried in this order, and the header of a table that keeps them. Definitions only.
+use Prim.Native.Nat.{ℕ, zero, suc, _+_, _*_, _-_}
+use mathlib.Core.Bool.{Bool, cond, not, _&&_, _||_}
+use mathlib.Core.List.{List}
+use lib.Dec.{eqb, leb}
+use lib.ListN.{length, replicate}
+use Rattle.words.specs.Each.{each}
+use Rattle.words.specs.Numbers.{byte}
+use Rattle.header.specs.Refusals.{tooShort, notATable, unknownVersion, encrypted, headerLimit, wrongLength, fieldRule, firstBroken}
+use Rattle.header.specs.Stored.{storedOf, blockSize, encryptionAt, areaAt, namesAt}
+use Rattle.header.specs.Fields.{widthAt, kindAt, widthSum, offsetsOf, fieldsRight}
+use Rattle.header.specs.declared.Header.{Header}
+use Rattle.header.specs.declared.stored.Stored.{Stored}
+use Rattle.header.specs.declared.kind.Known.{Known}
+use Rattle.header.specs.declared.kind.Known.the-variants.{Kind, Unknown}
+use Rattle.header.specs.declared.field.Field.{Field}
+use Rattle.header.specs.declared.field.Field.the-variants.{Is, Missing}
+
+-- ---- the limits, by name
+
+abbrev pub leastHeader : ℕ
+leastHeader = 120
+
+abbrev pub leastVersion : ℕ
+leastVersion = 0x03
+
+abbrev pub mostVersion : ℕ
+mostVersion = 0x0B
+
+abbrev pub mostUnits : ℕ
+mostUnits = 4
+
+-- a block's head, before its records
+abbrev pub blockHead : ℕ
+blockHead = 6
+
+abbrev pub mostBlocks : ℕ
+mostBlocks = 32767
+
+abbrev pub mostFields : ℕ
+mostFields = 255
+
+abbrev pub mostRecords : ℕ
+mostRecords = 2147483647
+
+-- ---- the rules
+
+-- 1: at least 120 bytes
+unfoldable pub longEnough : List ℕ → Bool
+longEnough t = leb leastHeader (length t)
+
+-- 2: byte 04 is 0 (a keyed table) or 2 (one without key)
+unfoldable pub isTable : Stored → Bool
+isTable s = eqb (s .kind) 0 || eqb (s .kind) 2
+
+-- 3: byte 39 is 03 to 0B
+unfoldable pub knownVersion : Stored → Bool
+knownVersion s = leb leastVersion (s .version) && leb (s .version) mostVersion
+
+-- 4: the four encryption bytes are zero
+unfoldable pub plain : List ℕ → ℕ → Bool
+plain t at = each (λ (i : ℕ). eqb (byte t (at + i)) 0) 4
+
+-- 5: byte 04 is 0 exactly when there are key fields, and then the sort byte is 0, plain byte order
+unfoldable pub keyedRight : Stored → Bool
+keyedRight s = cond (leb 1 (s .keys)) (eqb (s .kind) 0 && eqb (s .sort) 0) (not (eqb (s .kind) 0))
+
+-- 5: every number of the header within its limit
+unfoldable pub limitsKept : Stored → Bool
+limitsKept s =
+    leb 1 (s .units)
+    && leb (s .units) mostUnits
+    && leb 1 (s .size)
+    && leb (s .size + blockHead) (blockSize s)
+    && leb leastHeader (s .header)
+    && leb (s .blocks) mostBlocks
+    && leb 1 (s .fields)
+    && leb (s .fields) mostFields
+    && leb (s .keys) (s .fields)
+    && leb (s .records) mostRecords
+    && keyedRight s
+
+-- 6: the length is the header and the blocks, exactly
+unfoldable pub lengthRight : ℕ → Stored → Bool
+lengthRight long s = eqb long (s .header + s .blocks * blockSize s)
+
+-- 7 is fieldsRight
+
+-- the first broken rule's number, or 0
+unfoldable pub headerAnswer : List ℕ → ℕ
+headerAnswer t =
+    firstBroken (longEnough t) tooShort
+    (firstBroken (isTable (storedOf t)) notATable
+    (firstBroken (knownVersion (storedOf t)) unknownVersion
+    (firstBroken (plain t (encryptionAt (storedOf t .version))) encrypted
+    (firstBroken (limitsKept (storedOf t)) headerLimit
+    (firstBroken (lengthRight (length t) (storedOf t)) wrongLength
+    (firstBroken (fieldsRight t (storedOf t)) fieldRule 0))))))
+
+-- ---- the answer
+
+-- a refusal carries its number only: every other number is 0
+unfoldable pub refusedWith : ℕ → Header
+refusedWith number =
+    record {
+      refusal = number;
+      version = 0;
+      header = 0;
+      block = 0;
+      blocks = 0;
+      size = 0;
+      records = 0;
+      first = 0;
+      last = 0;
+      free = 0;
+      fields = 0;
+      keys = 0;
+      area = 0;
+      names = 0;
+      key = 0;
+      offsets = replicate 256 0;
+    }
+
+-- the numbers of a header that keeps the rules, with its key length and its offsets
+unfoldable pub acceptedWith : Stored → ℕ → List ℕ → Header
+acceptedWith s key offsets =
+    record {
+      refusal = 0;
+      version = s .version;
+      header = s .header;
+      block = blockSize s;
+      blocks = s .blocks;
+      size = s .size;
+      records = s .records;
+      first = s .first;
+      last = s .last;
+      free = s .free;
+      fields = s .fields;
+      keys = s .keys;
+      area = areaAt (s .version);
+      names = namesAt s;
+      key = key;
+      offsets = offsets;
+    }
+
+-- the key length is the widths of the key fields added up
+unfoldable pub acceptedOf : List ℕ → Stored → Header
+acceptedOf t s =
+    acceptedWith s (widthSum t (areaAt (s .version)) (s .keys)) (offsetsOf t (areaAt (s .version)) (s .fields))
+
+unfoldable pub answerWith : ℕ → List ℕ → Header
+answerWith zero t = acceptedOf t (storedOf t)
+answerWith (suc number) t = refusedWith (suc number)
+
+-- what reading a header answers, for any bytes
+unfoldable pub headerOf : List ℕ → Header
+headerOf t = answerWith (headerAnswer t) t
+
+-- ---- a field, counted from 1 as document 01 counts them
+
+unfoldable pub fieldWith : Known → ℕ → ℕ → Field
+fieldWith (Kind kind) width offset = Is kind width offset
+fieldWith Unknown width offset = Missing
+
+-- kind, width and offset of field f of an accepted table; Missing where it has no such field
+unfoldable pub fieldOf : List ℕ → Header → ℕ → Field
+fieldOf t h f =
+    cond (leb 1 f && leb f (h .fields))
+    (fieldWith (kindAt t (h .area) (f - 1)) (widthAt t (h .area) (f - 1)) (widthSum t (h .area) (f - 1)))
+    Missing

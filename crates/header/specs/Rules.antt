@@ -1,0 +1,100 @@
+-- The header rules as plain propositions: what document 01 asks of a table's header, with each rule's refusal. Definitions only.
+use Prim.Native.Nat.{ℕ, zero, suc, _+_, _-_, _*_, _≤_, _<_}
+use mathlib.Core.Path.{_≡_}
+use mathlib.Core.List.{List}
+use mathlib.Core.Logic.{_⊎_}
+use lib.ListN.{length, getD}
+use Rattle.words.specs.Numbers.{byte}
+use Rattle.header.specs.Kinds.{Permitted}
+use Rattle.header.specs.Stored.{storedOf, blockSize, encryptionAt, areaAt, namesAt}
+use Rattle.header.specs.Fields.{kindAt, widthSum, longestName}
+use Rattle.header.specs.Header.{leastHeader, leastVersion, mostVersion, mostUnits, blockHead, mostBlocks, mostFields, mostRecords, headerOf}
+use Rattle.header.specs.declared.Header.{Header}
+use Rattle.header.specs.declared.stored.Stored.{Stored}
+use Rattle.header.specs.declared.kind.FieldKind.{FieldKind}
+use Rattle.header.specs.declared.kind.FieldKind.the-variants.{Blob}
+use Rattle.header.specs.declared.kind.Known.the-variants.{Kind, Unknown}
+
+-- 5: every number within its limit
+pub record Limits (s : Stored) : Type 0 where
+  pub units-least : 1 ≤ s .units
+  pub units-most : s .units ≤ mostUnits
+  pub size-least : 1 ≤ s .size
+  pub size-most : s .size + blockHead ≤ blockSize s
+  pub header-least : leastHeader ≤ s .header
+  pub blocks-most : s .blocks ≤ mostBlocks
+  pub fields-least : 1 ≤ s .fields
+  pub fields-most : s .fields ≤ mostFields
+  pub keys-most : s .keys ≤ s .fields
+  pub records-most : s .records ≤ mostRecords
+  pub keyed-by-byte : s .kind ≡ 0 → 1 ≤ s .keys
+  pub byte-by-keyed : 1 ≤ s .keys → s .kind ≡ 0
+  pub plain-order : 1 ≤ s .keys → s .sort ≡ 0
+
+-- a zero-ended name of 1 to 25 bytes at a place
+pub record NameAt (t : List ℕ) (at l : ℕ) : Type 0 where
+  pub least : 1 ≤ l
+  pub most : l ≤ longestName
+  pub nonzero : (i : ℕ) → i < l → byte t (at + i) ≡ 0 → ⊥
+  pub ended : byte t (at + l) ≡ 0
+
+-- n such names from a place, one after another, each with its zero inside the header
+pub data Names (t : List ℕ) (end : ℕ) : ℕ → ℕ → Type 0 where
+  none : {at : ℕ} → Names t end 0 at
+  some : {n at l : ℕ} → NameAt t at l → at + l < end → Names t end n (at + l + 1) → Names t end (suc n) at
+
+-- 7: the table of kinds has every pair, no key field is a blob, the widths add up, the names are there
+pub record FieldRules (t : List ℕ) (s : Stored) : Type 0 where
+  pub pairs : (f : ℕ) → f < s .fields → kindAt t (areaAt (s .version)) f ≡ Unknown → ⊥
+  pub keys : (f : ℕ) → f < s .keys → kindAt t (areaAt (s .version)) f ≡ Kind Blob → ⊥
+  pub widths : widthSum t (areaAt (s .version)) (s .fields) ≡ s .size
+  pub names : Names t (s .header) (s .fields) (namesAt s)
+
+-- rules 1 to 7
+pub record HeaderRules (t : List ℕ) : Type 0 where
+  -- 1
+  pub long : leastHeader ≤ length t
+  -- 2
+  pub kind : (storedOf t .kind ≡ 0) ⊎ (storedOf t .kind ≡ 2)
+  -- 3
+  pub version-least : leastVersion ≤ storedOf t .version
+  pub version-most : storedOf t .version ≤ mostVersion
+  -- 4: no encryption
+  pub plain : (i : ℕ) → i < 4 → byte t (encryptionAt (storedOf t .version) + i) ≡ 0
+  -- 5
+  pub limits : Limits (storedOf t)
+  -- 6
+  pub whole : length t ≡ storedOf t .header + storedOf t .blocks * blockSize (storedOf t)
+  -- 7
+  pub fields : FieldRules t (storedOf t)
+
+-- what an accepted header gives the crates above: bounds, the file's length, where a field is
+pub record Accepted (t : List ℕ) (h : Header) : Type 0 where
+  pub same : h ≡ headerOf t
+  pub whole : length t ≡ h .header + h .blocks * h .block
+  pub header-least : leastHeader ≤ h .header
+  pub block-least : 1024 ≤ h .block
+  pub block-most : h .block ≤ mostUnits * 1024
+  pub blocks-most : h .blocks ≤ mostBlocks
+  pub size-least : 1 ≤ h .size
+  pub size-most : h .size + blockHead ≤ h .block
+  pub records-most : h .records ≤ mostRecords
+  pub fields-least : 1 ≤ h .fields
+  pub fields-most : h .fields ≤ mostFields
+  pub keys-most : h .keys ≤ h .fields
+  pub area-inside : h .area + 2 * h .fields ≤ h .header
+  pub offsets-length : length (h .offsets) ≡ 256
+  pub offset : (i : ℕ) → i ≤ h .fields → getD (h .offsets) i 0 ≡ widthSum t (h .area) i
+  pub widths : widthSum t (h .area) (h .fields) ≡ h .size
+  pub key-length : h .key ≡ widthSum t (h .area) (h .keys)
+  pub key-most : h .key ≤ h .size
+  pub key-least : 1 ≤ h .keys → 1 ≤ h .key
+  pub pairs : (f : ℕ) → f < h .fields → kindAt t (h .area) f ≡ Unknown → ⊥
+
+-- a field of an accepted table: its number is one of the fields', its width is one that its kind permits, and it ends inside the record
+pub record FieldBounds (t : List ℕ) (h : Header) (f : ℕ) (kind : FieldKind) (width offset : ℕ) : Type 0 where
+  pub least : 1 ≤ f
+  pub most : f ≤ h .fields
+  pub permitted : Permitted kind width
+  pub starts : offset ≡ widthSum t (h .area) (f - 1)
+  pub inside : offset + width ≤ h .size

@@ -1,0 +1,43 @@
+// A field of an accepted table.
+ghost use mathlib.Core.Path.{_≡_};
+ghost use Rattle.header.specs.Header.{fieldOf};
+ghost use Rattle.header.specs.Rules.{Accepted};
+use crate::Header;
+use crate::kind::FieldKind;
+use crate::kind::Known;
+
+// Its kind, its width and where it begins in a record; or that the table has no such field.
+pub enum Field {
+    Is {
+        kind: FieldKind,
+        width: u8,
+        offset: u16,
+    },
+    Missing,
+}
+
+// Field f, counted from 1. A helper of the crates above, which hold the header of the table.
+pub fn field_of(t: &[u8], h: Header, f: usize) -> Field
+    requires { ⌜ Accepted (now t) h ⌝ }
+    ensures { λ r. ⌜ r ≡ fieldOf (now (t .entry)) h f ⌝ }
+{
+    if f < 1 {
+        return Field::Missing;
+    }
+    let n = h.fields as usize;
+    if n < f {
+        return Field::Missing;
+    }
+    let i = f - 1;
+    let at = h.area as usize + 2 * i;
+    let code = t[at];
+    let width = t[at + 1];
+    let Known::Kind(kind) = FieldKind::of(code, width as usize) else {
+        return Field::Missing;
+    };
+    Field::Is {
+        kind,
+        width,
+        offset: h.offsets[i],
+    }
+}

@@ -1,0 +1,145 @@
+// Field kinds: the codes and the permitted widths of document 01's table.
+ghost use mathlib.Core.Path.{_≡_};
+ghost use Rattle.header.specs.Kinds.{isBlob, kindOf, permit};
+
+// What a field holds. Currency (05) and number (06) hold the same values and are one kind here,
+// and so are memo (0C) and the other blobs (0D..10).
+pub enum FieldKind {
+    Text,
+    Date,
+    Short,
+    Long,
+    Number,
+    Logical,
+    Blob,
+}
+
+// The kind of a stored pair of code and width, or none where the table has no such pair.
+pub enum Known {
+    Kind(FieldKind),
+    Unknown,
+}
+
+impl FieldKind {
+    pub const TEXT: u8 = 0x01;
+
+    pub const TEXT_LEAST: usize = 1;
+
+    pub const TEXT_MOST: usize = 255;
+
+    pub const DATE: u8 = 0x02;
+
+    pub const DATE_WIDTH: usize = 4;
+
+    pub const SHORT: u8 = 0x03;
+
+    pub const SHORT_WIDTH: usize = 2;
+
+    pub const LONG: u8 = 0x04;
+
+    pub const LONG_WIDTH: usize = 4;
+
+    pub const CURRENCY: u8 = 0x05;
+
+    pub const NUMBER: u8 = 0x06;
+
+    pub const NUMBER_WIDTH: usize = 8;
+
+    pub const LOGICAL: u8 = 0x09;
+
+    pub const LOGICAL_WIDTH: usize = 1;
+
+    pub const MEMO: u8 = 0x0c;
+
+    pub const MEMO_LEAST: usize = 11;
+
+    pub const BLOB_FIRST: u8 = 0x0d;
+
+    pub const BLOB_LAST: u8 = 0x10;
+
+    pub const BLOB_LEAST: usize = 10;
+
+    pub const BLOB_MOST: usize = 250;
+
+    // The kind of a field that is stored as this code and width.
+    pub fn of(code: u8, width: usize) -> Known
+        ensures { λ r. ⌜ r ≡ kindOf code width ⌝ }
+    {
+        if code == Self::TEXT {
+            return permitted(FieldKind::Text, width, Self::TEXT_LEAST, Self::TEXT_MOST);
+        }
+        if code == Self::DATE {
+            return permitted(FieldKind::Date, width, Self::DATE_WIDTH, Self::DATE_WIDTH);
+        }
+        if code == Self::SHORT {
+            return permitted(
+                FieldKind::Short,
+                width,
+                Self::SHORT_WIDTH,
+                Self::SHORT_WIDTH,
+            );
+        }
+        if code == Self::LONG {
+            return permitted(FieldKind::Long, width, Self::LONG_WIDTH, Self::LONG_WIDTH);
+        }
+        if code == Self::CURRENCY {
+            return permitted(
+                FieldKind::Number,
+                width,
+                Self::NUMBER_WIDTH,
+                Self::NUMBER_WIDTH,
+            );
+        }
+        if code == Self::NUMBER {
+            return permitted(
+                FieldKind::Number,
+                width,
+                Self::NUMBER_WIDTH,
+                Self::NUMBER_WIDTH,
+            );
+        }
+        if code == Self::LOGICAL {
+            return permitted(
+                FieldKind::Logical,
+                width,
+                Self::LOGICAL_WIDTH,
+                Self::LOGICAL_WIDTH,
+            );
+        }
+        if code == Self::MEMO {
+            return permitted(FieldKind::Blob, width, Self::MEMO_LEAST, Self::BLOB_MOST);
+        }
+        if Self::BLOB_FIRST <= code {
+            if code <= Self::BLOB_LAST {
+                return permitted(FieldKind::Blob, width, Self::BLOB_LEAST, Self::BLOB_MOST);
+            }
+        }
+        Known::Unknown
+    }
+
+    pub fn is_blob(self) -> bool
+        ensures { λ r. ⌜ r ≡ isBlob self ⌝ }
+    {
+        match self {
+            FieldKind::Text => false,
+            FieldKind::Date => false,
+            FieldKind::Short => false,
+            FieldKind::Long => false,
+            FieldKind::Number => false,
+            FieldKind::Logical => false,
+            FieldKind::Blob => true,
+        }
+    }
+}
+
+// The kind, where the width is within its limits.
+fn permitted(kind: FieldKind, width: usize, least: usize, most: usize) -> Known
+    ensures { λ r. ⌜ r ≡ permit kind width least most ⌝ }
+{
+    if least <= width {
+        if width <= most {
+            return Known::Kind(kind);
+        }
+    }
+    Known::Unknown
+}

@@ -1,0 +1,51 @@
+// The field names: zero-ended, 1 to 25 bytes each, wholly inside the header (rule 7).
+ghost use mathlib.Core.Path.{_≡_};
+ghost use Prim.Native.Nat.{_≤_};
+ghost use lib.ListN.{length};
+ghost use Rattle.header.specs.Fields.{namesFit};
+ghost use Rattle.header.specs.Steps.{nextName};
+
+const LONGEST_NAME: usize = 25;
+
+// Where the next name begins, after a name that fits.
+pub enum Name {
+    Next(usize),
+    Refused,
+}
+
+fn name_end(t: &[u8], at: usize, end: usize) -> Name
+    requires { ⌜ (at ≤ end) × (end ≤ length (now t)) ⌝ }
+    ensures { λ r. ⌜ r ≡ nextName (now (t .entry)) end at ⌝ }
+{
+    let mut i: usize = 0;
+    while i <= LONGEST_NAME {
+        if end <= at + i {
+            return Name::Refused;
+        }
+        if t[at + i] == 0 {
+            if i == 0 {
+                return Name::Refused;
+            }
+            return Name::Next(at + i + 1);
+        }
+        i += 1;
+    }
+    Name::Refused
+}
+
+// Whether n names fit from a place to the header's end.
+pub fn names_fit(t: &[u8], start: usize, end: usize, n: usize) -> bool
+    requires { ⌜ (start ≤ end) × (end ≤ length (now t)) ⌝ }
+    ensures { λ r. ⌜ r ≡ namesFit (now (t .entry)) end n start ⌝ }
+{
+    let mut at = start;
+    let mut i: usize = 0;
+    while i < n {
+        let Name::Next(next) = name_end(t, at, end) else {
+            return false;
+        };
+        at = next;
+        i += 1;
+    }
+    true
+}

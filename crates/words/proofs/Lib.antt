@@ -1,0 +1,4 @@
+pub mod EachLaws
+pub mod NumberLaws
+pub mod OrderLaws
+pub mod Ranges

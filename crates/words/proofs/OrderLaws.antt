@@ -1,0 +1,100 @@
+-- Byte order is a strict total order: same exactly when equal, antisymmetric, transitive. Assumes nothing.
+use Prim.Native.Nat.{ℕ, _<_}
+use mathlib.Core.Path.{_≡_, refl, sym, _∙_}
+use mathlib.Core.List.{List, [], _∷_}
+use mathlib.Core.Bool.{Bool, true, false, cond}
+use native.Mathlib.Nat.{le-antisymm}
+use native.Mathlib.Omega.{arith}
+use lib.Dec.{ltb}
+use borrow.Author.Tests.{ltb-true, ltb-false, lt-ltb, le-ltb}
+use Rattle.words.specs.Order.{order}
+use Rattle.words.specs.declared.Order.{Order}
+use Rattle.words.specs.declared.Order.the-variants.{Less, Same, More}
+
+pub more≢less : More ≡ Less → ⊥
+more≢less e = let z : _≡_ {A = ℕ} 0 1 = cc in omega arith
+
+pub more≢same : More ≡ Same → ⊥
+more≢same e = let z : _≡_ {A = ℕ} 0 1 = cc in omega arith
+
+pub less≢same : Less ≡ Same → ⊥
+less≢same e = let z : _≡_ {A = ℕ} 0 1 = cc in omega arith
+
+-- what the first bytes of two ranges tell
+data First (x y : ℕ) : Bool → Bool → Type 0 where
+  below : x < y → First x y true false
+  above : y < x → First x y false true
+  level : x ≡ y → First x y false false
+
+first : (x y : ℕ) → First x y (ltb x y) (ltb y x)
+first x y = go (ltb x y) refl (ltb y x) refl
+  where
+    go : (p : Bool) → ltb x y ≡ p → (q : Bool) → ltb y x ≡ q → First x y p q
+    go true e true f = absurd (omega (arith, ltb-true x y e, ltb-true y x f))
+    go true e false f = below (ltb-true x y e)
+    go false e true f = above (ltb-true y x f)
+    go false e false f = level (le-antisymm (ltb-false y x f) (ltb-false x y e))
+
+order-rest : (x : ℕ) (xs ys : List ℕ) → order (x ∷ xs) (x ∷ ys) ≡ order xs ys
+unfolding order
+order-rest x xs ys = let e : ltb x x ≡ false = le-ltb x x (omega arith) in rw e
+
+-- equal ranges compare as the same
+pub order-refl : (a : List ℕ) → order a a ≡ Same
+unfolding order
+order-refl [] = refl
+order-refl (x ∷ xs) = order-rest x xs xs ∙ order-refl xs
+
+-- ranges that compare as the same are equal
+pub order-same : (a b : List ℕ) → order a b ≡ Same → a ≡ b
+unfolding order
+order-same [] [] h = refl
+order-same [] (y ∷ ys) h = absurd (less≢same h)
+order-same (x ∷ xs) [] h = absurd (more≢same h)
+order-same (x ∷ xs) (y ∷ ys) h = go (first x y) h (order-same xs ys)
+  where
+    go : {p q : Bool} → First x y p q → cond p Less (cond q More (order xs ys)) ≡ Same → (order xs ys ≡ Same → xs ≡ ys) → _≡_ {A = List ℕ} (x ∷ xs) (y ∷ ys)
+    go (below l) w ih = absurd (less≢same w)
+    go (above l) w ih = absurd (more≢same w)
+    go (level e) w ih = let r : xs ≡ ys = ih w in cc
+
+-- turning the two ranges round turns the order round
+pub turned : Order → Order
+turned Less = More
+turned Same = Same
+turned More = Less
+
+pub order-turned : (a b : List ℕ) → order b a ≡ turned (order a b)
+unfolding order turned
+order-turned [] [] = refl
+order-turned [] (y ∷ ys) = refl
+order-turned (x ∷ xs) [] = refl
+order-turned (x ∷ xs) (y ∷ ys) = go (first x y) (order-turned xs ys)
+  where
+    go : {p q : Bool} → First x y p q → order ys xs ≡ turned (order xs ys) → cond q Less (cond p More (order ys xs)) ≡ turned (cond p Less (cond q More (order xs ys)))
+    go (below l) ih = refl
+    go (above l) ih = refl
+    go (level e) ih = ih
+
+-- two ranges are not each less than the other
+pub order-antisymm : (a b : List ℕ) → order a b ≡ Less → order b a ≡ Less → ⊥
+unfolding turned
+order-antisymm a b p q = more≢less (rw p at (sym (order-turned a b)) ∙ q)
+
+pub less-trans : (a b c : List ℕ) → order a b ≡ Less → order b c ≡ Less → order a c ≡ Less
+unfolding order
+less-trans [] [] c p q = absurd (less≢same (sym p))
+less-trans [] (y ∷ ys) [] p q = absurd (more≢less q)
+less-trans [] (y ∷ ys) (z ∷ zs) p q = refl
+less-trans (x ∷ xs) [] c p q = absurd (more≢less p)
+less-trans (x ∷ xs) (y ∷ ys) [] p q = absurd (more≢less q)
+less-trans (x ∷ xs) (y ∷ ys) (z ∷ zs) p q = go (less-trans xs ys zs) (first x y) p (first y z) q
+  where
+    go : (order xs ys ≡ Less → order ys zs ≡ Less → order xs zs ≡ Less) → {p q : Bool} → First x y p q → cond p Less (cond q More (order xs ys)) ≡ Less → {r s : Bool} → First y z r s → cond r Less (cond s More (order ys zs)) ≡ Less → order (x ∷ xs) (z ∷ zs) ≡ Less
+    go ih (above l) w g v = absurd (more≢less w)
+    go ih (below l) w (above m) v = absurd (more≢less v)
+    go ih (level l) w (above m) v = absurd (more≢less v)
+    go ih (below l) w (below m) v = rw (lt-ltb x z (omega arith))
+    go ih (below l) w (level m) v = rw (lt-ltb x z (omega arith))
+    go ih (level l) w (below m) v = rw (lt-ltb x z (omega arith))
+    go ih (level l) w (level m) v = rw (l, m) (order-rest z xs zs ∙ ih w v)

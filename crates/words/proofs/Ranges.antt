@@ -1,0 +1,47 @@
+-- Two ranges of bytes, compared a byte at a time. Assumes nothing.
+use Prim.Native.Nat.{ℕ, suc, _+_, _-_, _≤_, _<_}
+use mathlib.Core.Path.{_≡_, _∙_}
+use mathlib.Core.List.{List, [], _∷_}
+use mathlib.Core.Bool.{cond}
+use native.Mathlib.Nat.{sub-zero, add-zero, sub-self}
+use native.Mathlib.Omega.{arith}
+use lib.Dec.{ltb}
+use lib.ListN.{length}
+use lib.Seq.{drop-cons}
+use borrow.Author.Tests.{lt-ltb, le-ltb}
+use Rattle.words.specs.Numbers.{byte}
+use Rattle.words.specs.Order.{order, range}
+use Rattle.words.specs.declared.Order.the-variants.{Less, More}
+
+-- what is left of the n bytes from p after i of them
+abbrev pub rest : List ℕ → ℕ → ℕ → ℕ → List ℕ
+rest s p n i = range s (p + i) (n - i)
+
+pub rest-whole : (s : List ℕ) (p n : ℕ) → rest s p n 0 ≡ range s p n
+rest-whole s p n = rw (sub-zero n, add-zero p)
+
+pub rest-cons : (s : List ℕ) (p n i : ℕ) → i < n → p + n ≤ length s → rest s p n i ≡ byte s (p + i) ∷ rest s p n (i + 1)
+rest-cons s p n i h k =
+    let e : n - i ≡ suc (n - (i + 1)) = omega arith in
+    let f : p + (i + 1) ≡ suc (p + i) = omega arith in
+    let m : p + i < length s = omega arith in
+    rw (e, drop-cons s (p + i) 0 m, f)
+
+pub rest-end : (s : List ℕ) (p n : ℕ) → rest s p n n ≡ []
+rest-end s p n = rw (sub-self n)
+
+module _ (a b : List ℕ) (p q n i : ℕ) (h : i < n) (j : p + n ≤ length a) (k : q + n ≤ length b) where
+  step : order (rest a p n i) (rest b q n i) ≡ cond (ltb (byte a (p + i)) (byte b (q + i))) Less (cond (ltb (byte b (q + i)) (byte a (p + i))) More (order (rest a p n (i + 1)) (rest b q n (i + 1))))
+  unfolding order
+  step = rw (rest-cons a p n i h j, rest-cons b q n i h k)
+
+  pub step-less : byte a (p + i) < byte b (q + i) → order (rest a p n i) (rest b q n i) ≡ Less
+  step-less l = step ∙ rw (lt-ltb (byte a (p + i)) (byte b (q + i)) l)
+
+  pub step-more : byte b (q + i) < byte a (p + i) → order (rest a p n i) (rest b q n i) ≡ More
+  step-more l =
+      let le : byte b (q + i) ≤ byte a (p + i) = omega arith in
+      step ∙ rw (le-ltb (byte a (p + i)) (byte b (q + i)) le, lt-ltb (byte b (q + i)) (byte a (p + i)) l)
+
+  pub step-same : byte b (q + i) ≤ byte a (p + i) → byte a (p + i) ≤ byte b (q + i) → order (rest a p n i) (rest b q n i) ≡ order (rest a p n (i + 1)) (rest b q n (i + 1))
+  step-same l m = step ∙ rw (le-ltb (byte a (p + i)) (byte b (q + i)) l, le-ltb (byte b (q + i)) (byte a (p + i)) m)

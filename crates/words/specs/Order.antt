@@ -1,0 +1,19 @@
+-- Byte order of two ranges of bytes. Definitions only.
+use Prim.Native.Nat.{ℕ}
+use mathlib.Core.List.{List, [], _∷_}
+use mathlib.Core.Bool.{cond}
+use lib.Dec.{ltb}
+use lib.ListN.{take, drop}
+use Rattle.words.specs.declared.Order.{Order}
+use Rattle.words.specs.declared.Order.the-variants.{Less, Same, More}
+
+-- the n bytes of a file from a place
+abbrev pub range : List ℕ → ℕ → ℕ → List ℕ
+range s at n = take n (drop at s)
+
+-- byte order: the first byte that differs decides, and a range that ends first is less
+unfoldable pub order : List ℕ → List ℕ → Order
+order [] [] = Same
+order [] (y ∷ ys) = Less
+order (x ∷ xs) [] = More
+order (x ∷ xs) (y ∷ ys) = cond (ltb x y) Less (cond (ltb y x) More (order xs ys))

@@ -1,0 +1,75 @@
+// Numbers and byte order as the files have them: words in headers and block heads are little-endian,
+// numbers in cells and index entries big-endian, keys compare byte by byte.
+// The functions are helpers of the crates above: each `requires` says where its bytes stand.
+ghost use mathlib.Core.Path.{_≡_};
+ghost use Prim.Native.Nat.{_+_, _≤_};
+ghost use lib.ListN.{length};
+ghost use Rattle.words.specs.Numbers.{big, long, word};
+ghost use Rattle.words.specs.Order.{order, range};
+
+// How two ranges of bytes compare.
+pub enum Order {
+    Less,
+    Same,
+    More,
+}
+
+fn wide(byte: u8) -> u64
+    ensures { λ r. ⌜ r ≡ byte ⌝ }
+{
+    byte as u64
+}
+
+// The little-endian number of the two bytes at `at`.
+pub fn word(s: &[u8], at: usize) -> u16
+    requires { ⌜ at + 2 ≤ length (now s) ⌝ }
+    ensures { λ r. ⌜ r ≡ word (now (s .entry)) at ⌝ }
+{
+    let low = s[at] as u16;
+    let high = s[at + 1] as u16;
+    low + 256 * high
+}
+
+// The little-endian number of the four bytes at `at`.
+pub fn long(s: &[u8], at: usize) -> u32
+    requires { ⌜ at + 4 ≤ length (now s) ⌝ }
+    ensures { λ r. ⌜ r ≡ long (now (s .entry)) at ⌝ }
+{
+    let low = word(s, at) as u32;
+    let high = word(s, at + 2) as u32;
+    low + 65536 * high
+}
+
+// The big-endian number of the `width` bytes at `at`.
+pub fn number(s: &[u8], at: usize, width: usize) -> u64
+    requires { ⌜ (width ≤ 8) × (at + width ≤ length (now s)) ⌝ }
+    ensures { λ r. ⌜ r ≡ big (now (s .entry)) at width ⌝ }
+{
+    let mut n: u64 = 0;
+    let mut i: usize = 0;
+    while i < width {
+        n = n * 256 + wide(s[at + i]);
+        i += 1;
+    }
+    n
+}
+
+// How the `n` bytes of `a` from `p` compare with the `n` bytes of `b` from `q`.
+pub fn compare(a: &[u8], p: usize, b: &[u8], q: usize, n: usize) -> Order
+    requires { ⌜ (p + n ≤ length (now a)) × (q + n ≤ length (now b)) ⌝ }
+    ensures { λ r. ⌜ r ≡ order (range (now (a .entry)) p n) (range (now (b .entry)) q n) ⌝ }
+{
+    let mut i = 0;
+    while i < n {
+        let u = a[p + i];
+        let v = b[q + i];
+        if u < v {
+            return Order::Less;
+        }
+        if v < u {
+            return Order::More;
+        }
+        i += 1;
+    }
+    Order::Same
+}
