@@ -1,9 +1,11 @@
 // The header of a table: field kinds, refusal numbers, and table rules 1 to 7 in one call.
+mod answer;
 mod field;
 mod fields;
 mod kind;
 mod names;
 pub mod refusal;
+mod rules;
 mod stored;
 
 pub use field::Field;
@@ -11,10 +13,8 @@ pub use field::field_of;
 pub use kind::FieldKind;
 pub use kind::Known;
 ghost use mathlib.Core.Path.{_≡_};
-ghost use Prim.Native.Nat.{_≤_};
-ghost use Rattle.header.specs.Header.{acceptedWith, headerOf, refusedWith};
-ghost use Rattle.header.specs.Steps.{Placed, fieldsAnswer};
-use crate::stored::Stored;
+ghost use Rattle.header.specs.Header.{headerOf};
+use crate::answer::refused;
 
 // What reading a header answers: refusal 0 and the header's numbers, or a refusal's number with every
 // other number 0. Sizes and lengths are in bytes.
@@ -46,102 +46,33 @@ pub struct Header {
     pub offsets: [u16; 256],
 }
 
-fn refused(number: u8) -> Header
-    ensures { λ r. ⌜ r ≡ refusedWith number ⌝ }
-{
-    Header {
-        refusal: number,
-        version: 0,
-        header: 0,
-        block: 0,
-        blocks: 0,
-        size: 0,
-        records: 0,
-        first: 0,
-        last: 0,
-        free: 0,
-        fields: 0,
-        keys: 0,
-        area: 0,
-        names: 0,
-        key: 0,
-        offsets: [0u16; 256],
-    }
-}
-
-// The answer for a header that keeps every rule.
-fn accepted(s: Stored, key: u16, offsets: [u16; 256]) -> Header
-    requires { ⌜ (s .units ≤ 4) × (s .fields ≤ 255) ⌝ }
-    ensures { λ r. ⌜ r ≡ acceptedWith s key offsets ⌝ }
-{
-    Header {
-        refusal: refusal::ACCEPTED,
-        version: s.version,
-        header: s.header,
-        block: stored::block_bytes(s.units),
-        blocks: s.blocks,
-        size: s.size,
-        records: s.records,
-        first: s.first,
-        last: s.last,
-        free: s.free,
-        fields: s.fields,
-        keys: s.keys,
-        area: stored::area_at(s.version),
-        names: stored::names_at(s),
-        key,
-        offsets,
-    }
-}
-
-// Rule 7 and the answer, for a header that keeps rules 1 to 6 and has room for names.
-fn with_fields(t: &[u8], s: Stored) -> Header
-    requires { ⌜ Placed (now t) s ⌝ }
-    ensures { λ r. ⌜ r ≡ fieldsAnswer (now (t .entry)) s ⌝ }
-{
-    let area = stored::area_at(s.version) as usize;
-    let names = stored::names_at(s) as usize;
-    let end = s.header as usize;
-    let n = s.fields as usize;
-    let keys = s.keys as usize;
-    let mut offsets = [0u16; 256];
-    if !fields::add_widths(t, area, keys, n, &mut offsets) {
-        return refused(refusal::FIELD_RULE);
-    }
-    if offsets[n] != s.size {
-        return refused(refusal::FIELD_RULE);
-    }
-    if !names::names_fit(t, names, end, n) {
-        return refused(refusal::FIELD_RULE);
-    }
-    accepted(s, offsets[keys], offsets)
-}
-
 // The header of a table: the first of rules 1 to 7 that any bytes break, or the header's numbers.
 pub fn read(t: &[u8]) -> Header
     ensures { λ r. ⌜ r ≡ headerOf (now (t .entry)) ⌝ }
 {
-    if t.len() < stored::LEAST_LENGTH {
+    if t.len() < rules::LEAST_LENGTH {
         return refused(refusal::TOO_SHORT);
     }
     let s = stored::read_stored(t);
-    if !stored::is_table(s) {
+    if !rules::is_table(s) {
         return refused(refusal::NOT_A_TABLE);
     }
-    if !stored::known_version(s) {
+    if !rules::known_version(s) {
         return refused(refusal::UNKNOWN_VERSION);
     }
-    if !stored::is_plain(t, stored::encryption_at(s.version)) {
+    if !rules::is_plain(t, stored::encryption_at(s.version)) {
         return refused(refusal::ENCRYPTED);
     }
-    if !stored::limits_kept(s) {
+    if !rules::limits_kept(s) {
         return refused(refusal::HEADER_LIMIT);
     }
-    if !stored::is_length_right(t.len(), s) {
+    let whole = rules::is_length_right(t.len(), s);
+    let room = rules::has_room(s);
+    if !whole {
         return refused(refusal::WRONG_LENGTH);
     }
-    if !stored::has_room(s) {
+    if !room {
         return refused(refusal::FIELD_RULE);
     }
-    with_fields(t, s)
+    answer::with_fields(t, s)
 }

@@ -56,14 +56,11 @@ kept5 e = sym (verdict5 (e .before)) ∙ not-false _ (e .if5 .left)
 verdict6 : (d : tie.After-is-length-right) → d .is-length-right .result ≡ lengthRight (length (T (d .before .before .before .before .before .before .before .before .before .before))) (storedOf (T (d .before .before .before .before .before .before .before .before .before .before)))
 verdict6 d = rw (d .before .before .before .before .before .before .before .before .before .before .read-stored .ensures) at (d .is-length-right .ensures)
 
--- ---- the state after rule 6
+-- ---- what is known after rule 5
 
-module _ (e : tie.Else6) where
-  abbrev E5 : tie.Else5
-  E5 = e .before .before
-
+module _ (e5 : tie.Else5) where
   abbrev E4 : tie.Else4
-  E4 = E5 .before .before
+  E4 = e5 .before .before
 
   abbrev E3 : tie.Else3
   E3 = E4 .before .before .before
@@ -74,21 +71,33 @@ module _ (e : tie.Else6) where
   abbrev R : tie.After-read-stored
   R = E2 .before .before
 
-  kept6 : lengthRight (length (T R)) (storedOf (T R)) ≡ true
-  kept6 = sym (verdict6 (e .before)) ∙ not-false _ (e .if6 .left)
-
   limits : Limits (storedOf (T R))
-  limits = limits-give (storedOf (T R)) (kept5 E5)
-
-  whole : length (T R) ≡ storedOf (T R) .header + storedOf (T R) .blocks * blockSize (storedOf (T R))
-  unfolding lengthRight
-  whole = eqb-true _ _ kept6
+  limits = limits-give (storedOf (T R)) (kept5 e5)
 
   few : R .read-stored .result .fields ≤ 255
   few = rw (R .read-stored .ensures) (limits .fields-most)
 
-room : (d : tie.After-has-room) → d .has-room .result ≡ ltb (namesAt (storedOf (T (R (d .before))))) (storedOf (T (R (d .before))) .header)
-room d = rw (R (d .before) .read-stored .ensures) at (d .has-room .ensures)
+room : (d : tie.After-has-room) → d .has-room .result ≡ ltb (namesAt (storedOf (T (R (d .before .before))))) (storedOf (T (R (d .before .before))) .header)
+room d = rw (R (d .before .before) .read-stored .ensures) at (d .has-room .ensures)
+
+-- ---- and after rule 6
+
+module _ (e : tie.Else6) where
+  abbrev E5 : tie.Else5
+  E5 = e .before .before .before
+
+  abbrev T6 : List ℕ
+  T6 = T (R E5)
+
+  kept6 : lengthRight (length T6) (storedOf T6) ≡ true
+  kept6 = sym (verdict6 (e .before .before)) ∙ not-false _ (e .if6 .left)
+
+  whole : length T6 ≡ storedOf T6 .header + storedOf T6 .blocks * blockSize (storedOf T6)
+  unfolding lengthRight
+  whole = eqb-true _ _ kept6
+
+  left : headerOf T6 ≡ fieldsAnswer T6 (storedOf T6)
+  left = last-rule T6 (kept1 (R E5)) (kept2 (E2 E5)) (kept3 (E3 E5)) (kept4 (E4 E5)) (kept5 E5) kept6
 
 -- ---- the answers
 
@@ -171,50 +180,40 @@ refused-requires-6 c κs = search needs
 
 returns-6 : tie.Need-returns-6
 returns-6 c =
-    let d = c .before .before in
+    let d = c .before .before .before in
     let e5 = d .before in
-    let e4 = e5 .before .before in
-    let e3 = e4 .before .before .before in
-    let e2 = e3 .before .before in
-    let r = e2 .before .before in
-    c .refused6 .ensures ∙ sym (broken-6 (T r) (kept1 r) (kept2 e2) (kept3 e3) (kept4 e4) (kept5 e5) (sym (verdict6 d) ∙ not-true _ (c .before .if6 .taken)))
+    c .refused6 .ensures ∙ sym (broken-6 (T (R e5)) (kept1 (R e5)) (kept2 (E2 e5)) (kept3 (E3 e5)) (kept4 (E4 e5)) (kept5 e5) (sym (verdict6 d) ∙ not-true _ (c .before .if6 .taken)))
 
 has-room-requires : tie.Need-has-room-requires
-has-room-requires c κs = few c
+has-room-requires c κs = few (c .before)
 
 refused-requires-7 : tie.Need-refused-requires-7
 refused-requires-7 c κs = search needs
 
--- what the rules before the seventh leave to the fields
-left : (e : tie.Else6) → headerOf (T (R e)) ≡ fieldsAnswer (T (R e)) (storedOf (T (R e)))
-left e = last-rule (T (R e)) (kept1 (R e)) (kept2 (E2 e)) (kept3 (E3 e)) (kept4 (E4 e)) (kept5 (E5 e)) (kept6 e)
-
 returns-7 : tie.Need-returns-7
 returns-7 c =
-    let d = c .before .before in
-    let e = d .before in
-    let t = T (R e) in
+    let e = c .before .before in
+    let t = T6 e in
     c .refused7 .ensures
-    ∙ sym (left e ∙ fields-broken t (storedOf t) (no-room t (storedOf t) (limits e .fields-least) (ltb-false _ _ (sym (room d) ∙ not-true _ (c .before .if7 .taken)))))
+    ∙ sym (left e ∙ fields-broken t (storedOf t) (no-room t (storedOf t) (limits (E5 e) .fields-least) (ltb-false _ _ (sym (room (e .before)) ∙ not-true _ (c .before .if7 .taken)))))
 
 with-fields-requires : tie.Need-with-fields-requires
 with-fields-requires c κs =
-    let d = c .before in
-    let e = d .before in
-    let l = limits e in
-    rw (R e .read-stored .ensures)
+    let e = c .before in
+    let l = limits (E5 e) in
+    rw (R (E5 e) .read-stored .ensures)
     (record {
       units-most = l .units-most;
       fields-most = l .fields-most;
       keys-most = l .keys-most;
-      room = ltb-true _ _ (sym (room d) ∙ not-false _ (c .if7 .left));
+      room = ltb-true _ _ (sym (room (e .before)) ∙ not-false _ (c .if7 .left));
       inside = omega (arith, whole e);
     })
 
 returns-8 : tie.Need-returns-8
 returns-8 c =
-    let e = c .before .before .before in
-    rw (R e .read-stored .ensures) at (c .with-fields .ensures) ∙ sym (left e)
+    let e = c .before .before in
+    rw (R (E5 e) .read-stored .ensures) at (c .with-fields .ensures) ∙ sym (left e)
 
 pub read-spec : {M : Type 1} → statement M
 read-spec =
@@ -237,9 +236,9 @@ read-spec =
     refused-requires-5
     returns-5
     is-length-right-requires
+    has-room-requires
     refused-requires-6
     returns-6
-    has-room-requires
     refused-requires-7
     returns-7
     with-fields-requires

@@ -1,7 +1,7 @@
 -- `refused` meets its contract. Assumes nothing.
 use Rattle.header.specs.Header.{refusedWith}
-use Rattle.header.proofs.refused.Statement.{statement}
-use Rattle.header.proofs.refused.Tie as tie
+use Rattle.header.proofs.answer.refused.Statement.{statement}
+use Rattle.header.proofs.answer.refused.Tie as tie
 
 returns : tie.Need-returns
 unfolding refusedWith

@@ -1,8 +1,8 @@
 -- `accepted` meets its contract, number by number. Assumes nothing.
 use Rattle.header.specs.Header.{acceptedWith}
 use borrow.Author.Needs.{needs}
-use Rattle.header.proofs.accepted.Statement.{statement}
-use Rattle.header.proofs.accepted.Tie as tie
+use Rattle.header.proofs.answer.accepted.Statement.{statement}
+use Rattle.header.proofs.answer.accepted.Tie as tie
 
 block-bytes-requires : tie.Need-block-bytes-requires
 block-bytes-requires c κs = search needs

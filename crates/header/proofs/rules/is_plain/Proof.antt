@@ -3,8 +3,8 @@ use native.Mathlib.Nat.{add-zero}
 use Rattle.words.specs.Each.{each}
 use Rattle.header.specs.Header.{plain}
 use borrow.Author.Needs.{needs}
-use Rattle.header.proofs.stored.is_plain.Statement.{statement}
-use Rattle.header.proofs.stored.is_plain.Tie as tie
+use Rattle.header.proofs.rules.is_plain.Statement.{statement}
+use Rattle.header.proofs.rules.is_plain.Tie as tie
 
 shared-slice-read-result : tie.Need-shared-slice-read-result
 shared-slice-read-result c = search needs

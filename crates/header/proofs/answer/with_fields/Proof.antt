@@ -13,8 +13,8 @@ use Rattle.header.specs.declared.stored.Stored.{Stored}
 use Rattle.header.proofs.FieldLaws.{offset-at}
 use Rattle.header.proofs.HeaderLaws.{fields-broken, pairs-broken, widths-broken, names-unfit, fields-kept}
 use borrow.Author.Needs.{needs}
-use Rattle.header.proofs.with_fields.Statement.{statement}
-use Rattle.header.proofs.with_fields.Tie as tie
+use Rattle.header.proofs.answer.with_fields.Statement.{statement}
+use Rattle.header.proofs.answer.with_fields.Tie as tie
 
 -- ---- what is known after each call
 

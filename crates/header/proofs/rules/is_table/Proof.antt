@@ -1,7 +1,7 @@
 -- `is_table` meets its contract. Assumes nothing.
 use Rattle.header.specs.Header.{isTable}
-use Rattle.header.proofs.stored.is_table.Statement.{statement}
-use Rattle.header.proofs.stored.is_table.Tie as tie
+use Rattle.header.proofs.rules.is_table.Statement.{statement}
+use Rattle.header.proofs.rules.is_table.Tie as tie
 
 returns : tie.Need-returns
 unfolding isTable

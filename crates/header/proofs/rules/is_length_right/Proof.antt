@@ -3,8 +3,8 @@ use native.Mathlib.Omega.{arith}
 use native.Mathlib.Nat.{mul-le-mul}
 use Rattle.header.specs.Header.{lengthRight}
 use borrow.Author.Needs.{needs}
-use Rattle.header.proofs.stored.is_length_right.Statement.{statement}
-use Rattle.header.proofs.stored.is_length_right.Tie as tie
+use Rattle.header.proofs.rules.is_length_right.Statement.{statement}
+use Rattle.header.proofs.rules.is_length_right.Tie as tie
 
 block-size-requires : tie.Need-block-size-requires
 block-size-requires c κs = search needs

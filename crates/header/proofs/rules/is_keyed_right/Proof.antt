@@ -1,8 +1,8 @@
 -- `is_keyed_right` meets its contract, with key fields and without. Assumes nothing.
 use borrow.Author.Tests.{le-leb, lt-leb}
 use Rattle.header.specs.Header.{keyedRight}
-use Rattle.header.proofs.stored.is_keyed_right.Statement.{statement}
-use Rattle.header.proofs.stored.is_keyed_right.Tie as tie
+use Rattle.header.proofs.rules.is_keyed_right.Statement.{statement}
+use Rattle.header.proofs.rules.is_keyed_right.Tie as tie
 
 returns : tie.Need-returns
 unfolding keyedRight

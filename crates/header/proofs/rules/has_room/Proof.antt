@@ -1,7 +1,7 @@
 -- `has_room` meets its contract. Assumes nothing.
 use borrow.Author.Needs.{needs}
-use Rattle.header.proofs.stored.has_room.Statement.{statement}
-use Rattle.header.proofs.stored.has_room.Tie as tie
+use Rattle.header.proofs.rules.has_room.Statement.{statement}
+use Rattle.header.proofs.rules.has_room.Tie as tie
 
 names-at-requires : tie.Need-names-at-requires
 names-at-requires c κs = search needs

@@ -1,8 +1,8 @@
 -- `limits_kept` meets its contract: its tests are those of the definition. Assumes nothing.
 use Rattle.header.specs.Header.{limitsKept}
 use borrow.Author.Needs.{needs}
-use Rattle.header.proofs.stored.limits_kept.Statement.{statement}
-use Rattle.header.proofs.stored.limits_kept.Tie as tie
+use Rattle.header.proofs.rules.limits_kept.Statement.{statement}
+use Rattle.header.proofs.rules.limits_kept.Tie as tie
 
 block-size-requires : tie.Need-block-size-requires
 block-size-requires c κs = search needs

@@ -1,7 +1,7 @@
 -- `known_version` meets its contract. Assumes nothing.
 use Rattle.header.specs.Header.{knownVersion}
-use Rattle.header.proofs.stored.known_version.Statement.{statement}
-use Rattle.header.proofs.stored.known_version.Tie as tie
+use Rattle.header.proofs.rules.known_version.Statement.{statement}
+use Rattle.header.proofs.rules.known_version.Tie as tie
 
 returns : tie.Need-returns
 unfolding knownVersion

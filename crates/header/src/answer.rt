@@ -1,0 +1,83 @@
+// The answer of a header: refused with a number, or accepted once rule 7 is kept.
+ghost use mathlib.Core.Path.{_≡_};
+ghost use Prim.Native.Nat.{_≤_};
+ghost use Rattle.header.specs.Header.{acceptedWith, refusedWith};
+ghost use Rattle.header.specs.Steps.{Placed, fieldsAnswer};
+use crate::Header;
+use crate::fields;
+use crate::names;
+use crate::refusal;
+use crate::stored;
+use crate::stored::Stored;
+
+// A refusal carries its number only.
+pub fn refused(number: u8) -> Header
+    ensures { λ r. ⌜ r ≡ refusedWith number ⌝ }
+{
+    Header {
+        refusal: number,
+        version: 0,
+        header: 0,
+        block: 0,
+        blocks: 0,
+        size: 0,
+        records: 0,
+        first: 0,
+        last: 0,
+        free: 0,
+        fields: 0,
+        keys: 0,
+        area: 0,
+        names: 0,
+        key: 0,
+        offsets: [0u16; 256],
+    }
+}
+
+// The answer for a header that keeps every rule.
+fn accepted(s: Stored, key: u16, offsets: [u16; 256]) -> Header
+    requires { ⌜ (s .units ≤ 4) × (s .fields ≤ 255) ⌝ }
+    ensures { λ r. ⌜ r ≡ acceptedWith s key offsets ⌝ }
+{
+    Header {
+        refusal: refusal::ACCEPTED,
+        version: s.version,
+        header: s.header,
+        block: stored::block_bytes(s.units),
+        blocks: s.blocks,
+        size: s.size,
+        records: s.records,
+        first: s.first,
+        last: s.last,
+        free: s.free,
+        fields: s.fields,
+        keys: s.keys,
+        area: stored::area_at(s.version),
+        names: stored::names_at(s),
+        key,
+        offsets,
+    }
+}
+
+// Rule 7 and the answer, for a header that keeps rules 1 to 6 and has room for names.
+pub fn with_fields(t: &[u8], s: Stored) -> Header
+    requires { ⌜ Placed (now t) s ⌝ }
+    ensures { λ r. ⌜ r ≡ fieldsAnswer (now (t .entry)) s ⌝ }
+{
+    let area = stored::area_at(s.version) as usize;
+    let names = stored::names_at(s) as usize;
+    let end = s.header as usize;
+    let n = s.fields as usize;
+    let keys = s.keys as usize;
+    let mut offsets = [0u16; 256];
+    if !fields::add_widths(t, area, keys, n, &mut offsets) {
+        return refused(refusal::FIELD_RULE);
+    }
+    if offsets[n] != s.size {
+        return refused(refusal::FIELD_RULE);
+    }
+    if !names::names_fit(t, names, end, n) {
+        return refused(refusal::FIELD_RULE);
+    }
+    accepted(s, offsets[keys], offsets)
+}

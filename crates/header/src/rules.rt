@@ -1,0 +1,104 @@
+// Table rules 2 to 6 as tests of the stored numbers, and the limits that they name.
+ghost use mathlib.Core.Path.{_≡_};
+ghost use Prim.Native.Nat.{_+_, _≤_};
+ghost use lib.Dec.{ltb};
+ghost use lib.ListN.{length};
+ghost use Rattle.header.specs.Stored.{namesAt};
+ghost use Rattle.header.specs.Header.{isTable, keyedRight, knownVersion, lengthRight, limitsKept, plain};
+use crate::stored::Stored;
+use crate::stored::block_size;
+use crate::stored::names_at;
+
+// Byte 04 of a keyed table and of one without key; the sort byte of plain byte order.
+const KEYED: u8 = 0;
+
+const UNKEYED: u8 = 2;
+
+const PLAIN_ORDER: u8 = 0;
+// The limits of rules 1, 3 and 5.
+pub const LEAST_LENGTH: usize = 120;
+
+const LEAST_HEADER: u16 = 120;
+
+const LEAST_VERSION: u8 = 0x03;
+
+const MOST_VERSION: u8 = 0x0b;
+
+const MOST_UNITS: u8 = 4;
+
+const BLOCK_HEAD: u32 = 6;
+
+const MOST_BLOCKS: u16 = 32767;
+
+const MOST_FIELDS: u16 = 255;
+
+const MOST_RECORDS: u32 = 2147483647;
+
+// Rule 2.
+pub fn is_table(s: Stored) -> bool
+    ensures { λ r. ⌜ r ≡ isTable s ⌝ }
+{
+    (s.kind == KEYED) | (s.kind == UNKEYED)
+}
+
+// Rule 3.
+pub fn known_version(s: Stored) -> bool
+    ensures { λ r. ⌜ r ≡ knownVersion s ⌝ }
+{
+    (LEAST_VERSION <= s.version) & (s.version <= MOST_VERSION)
+}
+
+// Rule 4, of the four bytes at a place.
+pub fn is_plain(t: &[u8], at: usize) -> bool
+    requires { ⌜ at + 4 ≤ length (now t) ⌝ }
+    ensures { λ r. ⌜ r ≡ plain (now (t .entry)) at ⌝ }
+{
+    (t[at] == 0) & (t[at + 1] == 0) & (t[at + 2] == 0) & (t[at + 3] == 0)
+}
+
+// Rule 5, of the key fields.
+fn is_keyed_right(s: Stored) -> bool
+    ensures { λ r. ⌜ r ≡ keyedRight s ⌝ }
+{
+    if 1 <= s.keys {
+        return (s.kind == KEYED) & (s.sort == PLAIN_ORDER);
+    }
+    s.kind != KEYED
+}
+
+// Rule 5.
+pub fn limits_kept(s: Stored) -> bool
+    ensures { λ r. ⌜ r ≡ limitsKept s ⌝ }
+{
+    let block = block_size(s.units);
+    let size = s.size as u32;
+    (1 <= s.units)
+        & (s.units <= MOST_UNITS)
+        & (1 <= s.size)
+        & (size + BLOCK_HEAD <= block)
+        & (LEAST_HEADER <= s.header)
+        & (s.blocks <= MOST_BLOCKS)
+        & (1 <= s.fields)
+        & (s.fields <= MOST_FIELDS)
+        & (s.keys <= s.fields)
+        & (s.records <= MOST_RECORDS)
+        & is_keyed_right(s)
+}
+
+// Rule 6, of a file's length.
+pub fn is_length_right(long: usize, s: Stored) -> bool
+    ensures { λ r. ⌜ r ≡ lengthRight long s ⌝ }
+{
+    let block = block_size(s.units) as usize;
+    let blocks = s.blocks as usize;
+    let header = s.header as usize;
+    long == header + blocks * block
+}
+
+// Whether the names begin inside the header: where they don't, rule 7 is broken and no field is read.
+pub fn has_room(s: Stored) -> bool
+    requires { ⌜ s .fields ≤ 255 ⌝ }
+    ensures { λ r. ⌜ r ≡ ltb (namesAt s) (s .header) ⌝ }
+{
+    names_at(s) < s.header
+}
