@@ -14,8 +14,8 @@ use Rattle.header.specs.Header.{headerAnswer, refusedWith, acceptedWith,
 use Rattle.header.specs.Rules.{Names, some, HeaderRules, Accepted, FieldBounds}
 use Rattle.header.specs.declared.Header.{Header}
 use Rattle.header.specs.declared.kind.FieldKind.{FieldKind}
-use Rattle.header.specs.declared.kind.Known.{Known}
-use Rattle.header.specs.declared.kind.Known.the-variants.{Kind, Unknown}
+use Rattle.header.specs.declared.kind.StoredKind.{StoredKind}
+use Rattle.header.specs.declared.kind.StoredKind.the-variants.{Kind, Unknown}
 use Rattle.header.specs.declared.field.Field.the-variants.{Is, Missing}
 use Rattle.header.proofs.KindLaws.{kind-width, known-width}
 use Rattle.header.proofs.FieldLaws.{offset-at, offsets-length}
@@ -131,7 +131,7 @@ module _ (t : List ℕ) (h : Header) (f : ℕ) where
   field-here l m = rw (le-leb 1 f l, le-leb f (h .fields) m)
 
 -- which of its fields a field is
-field-parts : (k : Known) (w o : ℕ) (kind : FieldKind) (width offset : ℕ) → fieldWith k w o ≡ Is kind width offset → (k ≡ Kind kind) × (w ≡ width) × (o ≡ offset)
+field-parts : (k : StoredKind) (w o : ℕ) (kind : FieldKind) (width offset : ℕ) → fieldWith k w o ≡ Is kind width offset → (k ≡ Kind kind) × (w ≡ width) × (o ≡ offset)
 unfolding fieldWith
 field-parts (Kind k) w o kind width offset e = (cc, cc, cc)
 field-parts Unknown w o kind width offset e = let z : _≡_ {A = ℕ} 0 1 = cc in absurd (omega arith)
@@ -161,6 +161,6 @@ module _ (t : List ℕ) (h : Header) (a : Accepted t h) (f : ℕ) where
   unfolding fieldWith
   field-there l m e = go (kindAt t (h .area) (f - 1)) refl
     where
-      go : (k : Known) → kindAt t (h .area) (f - 1) ≡ k → ⊥
+      go : (k : StoredKind) → kindAt t (h .area) (f - 1) ≡ k → ⊥
       go Unknown g = a .pairs (f - 1) (omega arith) g
       go (Kind kind) g = let z : _≡_ {A = ℕ} 0 1 = cc (field-here t h f l m) in omega arith

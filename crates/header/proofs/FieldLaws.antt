@@ -18,8 +18,8 @@ use Rattle.header.specs.Stored.{areaAt}
 use Rattle.header.specs.Fields.{allowed, widthAt, pairRight, widthSum, offsetsOf}
 use Rattle.header.specs.Steps.{widthIf}
 use Rattle.header.specs.declared.kind.FieldKind.{FieldKind}
-use Rattle.header.specs.declared.kind.Known.{Known}
-use Rattle.header.specs.declared.kind.Known.the-variants.{Kind, Unknown}
+use Rattle.header.specs.declared.kind.StoredKind.{StoredKind}
+use Rattle.header.specs.declared.kind.StoredKind.the-variants.{Kind, Unknown}
 use Rattle.header.specs.declared.fields.Width.the-variants.{Of, Refused}
 
 -- the field area begins at 58 or 78
@@ -32,11 +32,11 @@ area-most version = go (leb version 0x04)
 
 -- ---- a pair
 
-pub width-unknown : (keyed : Bool) (k : Known) (w : ℕ) → k ≡ Unknown → widthIf (allowed keyed k) w ≡ Refused
+pub width-unknown : (keyed : Bool) (k : StoredKind) (w : ℕ) → k ≡ Unknown → widthIf (allowed keyed k) w ≡ Refused
 unfolding widthIf allowed
 width-unknown keyed k w e = rw e
 
-pub width-known : (keyed : Bool) (k : Known) (kind : FieldKind) (w : ℕ) (t : Bool) → k ≡ Kind kind → (keyed && isBlob kind) ≡ t → widthIf (allowed keyed k) w ≡ widthIf (not t) w
+pub width-known : (keyed : Bool) (k : StoredKind) (kind : FieldKind) (w : ℕ) (t : Bool) → k ≡ Kind kind → (keyed && isBlob kind) ≡ t → widthIf (allowed keyed k) w ≡ widthIf (not t) w
 unfolding allowed
 width-known keyed k kind w t e f = rw (e, f)
 

@@ -9,7 +9,7 @@ use borrow.Author.Tests.{eq-eqb, ne-eqb}
 use Rattle.words.specs.Each.{each}
 use Rattle.header.specs.Stored.{storedOf, encryptionAt, areaAt, namesAt}
 use Rattle.header.specs.Fields.{pairRight, widthSum, offsetsOf, namesFit, fieldsRight}
-use Rattle.header.specs.Header.{longEnough, isTable, knownVersion, plain, limitsKept, lengthRight, headerAnswer, refusedWith, acceptedWith, acceptedOf, answerWith, headerOf}
+use Rattle.header.specs.Header.{longEnough, isTable, knownVersion, unencrypted, limitsKept, lengthRight, headerAnswer, refusedWith, acceptedWith, acceptedOf, answerWith, headerOf}
 use Rattle.header.specs.Steps.{fieldsAnswer}
 use Rattle.header.specs.declared.stored.Stored.{Stored}
 use Rattle.header.proofs.FieldLaws.{offset-at}
@@ -77,11 +77,11 @@ module _ (t : List ℕ) where
       broken-3 e = answered 3 (rw (k1, k2, e))
 
       module _ (k3 : knownVersion (storedOf t) ≡ true) where
-        pub broken-4 : plain t (encryptionAt (storedOf t .version)) ≡ false → headerOf t ≡ refusedWith 4
+        pub broken-4 : unencrypted t (encryptionAt (storedOf t .version)) ≡ false → headerOf t ≡ refusedWith 4
         unfolding headerAnswer answerWith
         broken-4 e = answered 4 (rw (k1, k2, k3, e))
 
-        module _ (k4 : plain t (encryptionAt (storedOf t .version)) ≡ true) where
+        module _ (k4 : unencrypted t (encryptionAt (storedOf t .version)) ≡ true) where
           pub broken-5 : limitsKept (storedOf t) ≡ false → headerOf t ≡ refusedWith 5
           unfolding headerAnswer answerWith
           broken-5 e = answered 5 (rw (k1, k2, k3, k4, e))

@@ -1,6 +1,6 @@
 -- The table of field kinds, looked up. Assumes nothing.
 use Prim.Native.Nat.{ℕ, _≤_, _<_}
-use mathlib.Core.Path.{_≡_, refl}
+use mathlib.Core.Path.{_≡_, refl, sym}
 use mathlib.Core.Bool.{Bool, true, false, cond, _&&_}
 use mathlib.Core.List.{List, [], _∷_}
 use mathlib.Core.Logic.{⊎-elim}
@@ -11,8 +11,8 @@ use borrow.Author.Tests.{ne-eqb, le-leb, lt-leb, leb-true}
 use Rattle.header.specs.Kinds.{Row, row, kinds, permit, kindIn, kindOf, Permitted}
 use Rattle.header.specs.declared.kind.FieldKind.{FieldKind}
 use Rattle.header.specs.declared.kind.FieldKind.the-variants.{Text, Date, Short, Long, Number, Logical, Blob}
-use Rattle.header.specs.declared.kind.Known.{Known}
-use Rattle.header.specs.declared.kind.Known.the-variants.{Kind, Unknown}
+use Rattle.header.specs.declared.kind.StoredKind.{StoredKind}
+use Rattle.header.specs.declared.kind.StoredKind.the-variants.{Kind, Unknown}
 
 -- ---- a width within its limits, or not
 
@@ -48,13 +48,23 @@ blob-codes code width low high = ⊎-elim (λ e. rw (← e)) more (eq-or-lt-of-l
     more : 0x0D < code → kindOf code width ≡ permit Blob width 10 250
     more l = ⊎-elim (λ e. rw (← e)) third (eq-or-lt-of-le l)
 
+-- a number that is at least k and not k is past k
+pub past : (n k : ℕ) → k ≤ n → (n ≡ k → ⊥) → k < n
+past n k l other = ⊎-elim (λ e. absurd (other (sym e))) (λ m. m) (eq-or-lt-of-le l)
+
+-- 05 and 06 are numbers of width 8
+pub number-codes : (code width : ℕ) → 0x05 ≤ code → code ≤ 0x06 → kindOf code width ≡ permit Number width 8 8
+unfolding kindOf kindIn kinds
+number-codes code width low high = ⊎-elim (λ e. rw (← e)) (λ l. let e : code ≡ 0x06 = omega arith in rw e) (eq-or-lt-of-le low)
+
 -- a code that no row has
 pub unknown-code : (code width : ℕ) →
-    (code ≡ 0x01 → ⊥) → (code ≡ 0x02 → ⊥) → (code ≡ 0x03 → ⊥) → (code ≡ 0x04 → ⊥) → (code ≡ 0x05 → ⊥) → (code ≡ 0x06 → ⊥) → (code ≡ 0x09 → ⊥) → (code ≡ 0x0C → ⊥) → (0x0D ≤ code → code ≤ 0x10 → ⊥) → kindOf code width ≡ Unknown
+    (code ≡ 0x01 → ⊥) → (code ≡ 0x02 → ⊥) → (code ≡ 0x03 → ⊥) → (code ≡ 0x04 → ⊥) → (0x05 ≤ code → code ≤ 0x06 → ⊥) → (code ≡ 0x09 → ⊥) → (code ≡ 0x0C → ⊥) → (0x0D ≤ code → code ≤ 0x10 → ⊥) → kindOf code width ≡ Unknown
 unfolding kindOf kindIn kinds
-unknown-code code width n1 n2 n3 n4 n5 n6 n9 nC blobs =
-    let no : (k : ℕ) → 0x0D ≤ k → k ≤ 0x10 → eqb code k ≡ false = λ k l h. ne-eqb code k (λ e. blobs (omega arith) (omega arith)) in
-    simp (ne-eqb code 0x01 n1, ne-eqb code 0x02 n2, ne-eqb code 0x03 n3, ne-eqb code 0x04 n4, ne-eqb code 0x05 n5, ne-eqb code 0x06 n6, ne-eqb code 0x09 n9, ne-eqb code 0x0C nC, no 0x0D (omega arith) (omega arith), no 0x0E (omega arith) (omega arith), no 0x0F (omega arith) (omega arith), no 0x10 (omega arith) (omega arith))
+unknown-code code width n1 n2 n3 n4 numbers n9 nC blobs =
+    let nN : (k : ℕ) → 0x05 ≤ k → k ≤ 0x06 → eqb code k ≡ false = λ k l h. ne-eqb code k (λ e. numbers (omega arith) (omega arith)) in
+    let nB : (k : ℕ) → 0x0D ≤ k → k ≤ 0x10 → eqb code k ≡ false = λ k l h. ne-eqb code k (λ e. blobs (omega arith) (omega arith)) in
+    simp (ne-eqb code 0x01 n1, ne-eqb code 0x02 n2, ne-eqb code 0x03 n3, ne-eqb code 0x04 n4, nN 0x05 (omega arith) (omega arith), nN 0x06 (omega arith) (omega arith), ne-eqb code 0x09 n9, ne-eqb code 0x0C nC, nB 0x0D (omega arith) (omega arith), nB 0x0E (omega arith) (omega arith), nB 0x0F (omega arith) (omega arith), nB 0x10 (omega arith) (omega arith))
 
 -- ---- what a kind says of the width
 
@@ -104,6 +114,6 @@ permitted-some Blob w p = omega arith
 pub known-width : (code width : ℕ) → (kindOf code width ≡ Unknown → ⊥) → 1 ≤ width
 known-width code width h = go (kindOf code width) refl
   where
-    go : (k : Known) → kindOf code width ≡ k → 1 ≤ width
+    go : (k : StoredKind) → kindOf code width ≡ k → 1 ≤ width
     go Unknown e = absurd (h e)
     go (Kind kind) e = permitted-some kind width (kind-width code width kind e)

@@ -15,13 +15,13 @@ use Rattle.words.proofs.EachLaws.{each-gives, each-takes}
 use Rattle.header.specs.Kinds.{isBlob}
 use Rattle.header.specs.Stored.{storedOf, blockSize, encryptionAt, areaAt, namesAt}
 use Rattle.header.specs.Fields.{allowed, kindAt, pairRight, widthSum, beforeZero, nameLength, nameFits, namesFit, fieldsRight}
-use Rattle.header.specs.Header.{longEnough, isTable, knownVersion, plain, keyedRight, limitsKept, lengthRight, headerAnswer}
+use Rattle.header.specs.Header.{longEnough, isTable, knownVersion, unencrypted, keyedRight, limitsKept, lengthRight, headerAnswer}
 use Rattle.header.specs.Rules.{Limits, Names, none, some, FieldRules, HeaderRules}
 use Rattle.header.specs.declared.stored.Stored.{Stored}
 use Rattle.header.specs.declared.kind.FieldKind.{FieldKind}
 use Rattle.header.specs.declared.kind.FieldKind.the-variants.{Text, Date, Short, Long, Number, Logical, Blob}
-use Rattle.header.specs.declared.kind.Known.{Known}
-use Rattle.header.specs.declared.kind.Known.the-variants.{Kind, Unknown}
+use Rattle.header.specs.declared.kind.StoredKind.{StoredKind}
+use Rattle.header.specs.declared.kind.StoredKind.the-variants.{Kind, Unknown}
 
 -- both halves of a conjunction, and back
 both : {a b : Bool} → (a && b) ≡ true → (a ≡ true) × (b ≡ true)
@@ -39,13 +39,13 @@ encryption-most version = go (leb version 0x04)
     go true = omega arith
     go false = omega arith
 
-plain-gives : (t : List ℕ) (at : ℕ) → plain t at ≡ true → (i : ℕ) → i < 4 → byte t (at + i) ≡ 0
-unfolding plain
-plain-gives t at e i l = eqb-true (byte t (at + i)) 0 (each-gives (λ (k : ℕ). eqb (byte t (at + k)) 0) 4 e i l)
+unencrypted-gives : (t : List ℕ) (at : ℕ) → unencrypted t at ≡ true → (i : ℕ) → i < 4 → byte t (at + i) ≡ 0
+unfolding unencrypted
+unencrypted-gives t at e i l = eqb-true (byte t (at + i)) 0 (each-gives (λ (k : ℕ). eqb (byte t (at + k)) 0) 4 e i l)
 
-plain-takes : (t : List ℕ) (at : ℕ) → ((i : ℕ) → i < 4 → byte t (at + i) ≡ 0) → plain t at ≡ true
-unfolding plain
-plain-takes t at h = each-takes (λ (k : ℕ). eqb (byte t (at + k)) 0) 4 (λ i l. eq-eqb (byte t (at + i)) 0 (h i l))
+unencrypted-takes : (t : List ℕ) (at : ℕ) → ((i : ℕ) → i < 4 → byte t (at + i) ≡ 0) → unencrypted t at ≡ true
+unfolding unencrypted
+unencrypted-takes t at h = each-takes (λ (k : ℕ). eqb (byte t (at + k)) 0) 4 (λ i l. eq-eqb (byte t (at + i)) 0 (h i l))
 
 -- ---- 5
 
@@ -111,11 +111,11 @@ limits-take s l =
 
 -- ---- 7: pairs
 
-allowed-unknown : (keyed : Bool) (k : Known) → allowed keyed k ≡ true → k ≡ Unknown → ⊥
+allowed-unknown : (keyed : Bool) (k : StoredKind) → allowed keyed k ≡ true → k ≡ Unknown → ⊥
 unfolding allowed
 allowed-unknown keyed k e f = false≢true (rw f at e)
 
-allowed-blob : (k : Known) → allowed true k ≡ true → k ≡ Kind Blob → ⊥
+allowed-blob : (k : StoredKind) → allowed true k ≡ true → k ≡ Kind Blob → ⊥
 unfolding allowed isBlob
 allowed-blob k e f = false≢true (rw f at e)
 
@@ -130,7 +130,7 @@ not-blob Number h = refl
 not-blob Logical h = refl
 not-blob Blob h = absurd (h refl)
 
-allowed-takes : (keyed : Bool) (k : Known) → (k ≡ Unknown → ⊥) → (keyed ≡ true → k ≡ Kind Blob → ⊥) → allowed keyed k ≡ true
+allowed-takes : (keyed : Bool) (k : StoredKind) → (k ≡ Unknown → ⊥) → (keyed ≡ true → k ≡ Kind Blob → ⊥) → allowed keyed k ≡ true
 unfolding allowed
 allowed-takes keyed Unknown h g = absurd (h refl)
 allowed-takes false (Kind kind) h g = refl
@@ -230,7 +230,7 @@ answer-gives t e =
     let p1 = kept-of (longEnough t) 0 _ e in
     let p2 = kept-of (isTable s) 1 _ (p1 .1) in
     let p3 = kept-of (knownVersion s) 2 _ (p2 .1) in
-    let p4 = kept-of (plain t (encryptionAt (s .version))) 3 _ (p3 .1) in
+    let p4 = kept-of (unencrypted t (encryptionAt (s .version))) 3 _ (p3 .1) in
     let p5 = kept-of (limitsKept s) 4 _ (p4 .1) in
     let p6 = kept-of (lengthRight (length t) s) 5 _ (p5 .1) in
     let p7 = kept-of (fieldsRight t s) 6 0 (p6 .1) in
@@ -241,7 +241,7 @@ answer-gives t e =
       kind = either (eqb (s .kind) 0) refl (p2 .0);
       version-least = leb-true 3 (s .version) (v .0);
       version-most = leb-true (s .version) 11 (v .1);
-      plain = plain-gives t (encryptionAt (s .version)) (p4 .0);
+      unencrypted = unencrypted-gives t (encryptionAt (s .version)) (p4 .0);
       limits = l;
       whole = eqb-true (length t) (s .header + s .blocks * blockSize s) (p6 .0);
       fields = fields-give t s (l .keys-most) (p7 .0);
@@ -260,4 +260,4 @@ pub answer-takes : (t : List ℕ) → HeaderRules t → headerAnswer t ≡ 0
 unfolding headerAnswer longEnough knownVersion lengthRight
 answer-takes t r =
     let s = storedOf t in
-    rw (le-leb 120 (length t) (r .long), is-table s (r .kind), le-leb 3 (s .version) (r .version-least), le-leb (s .version) 11 (r .version-most), plain-takes t (encryptionAt (s .version)) (r .plain), limits-take s (r .limits), eq-eqb (length t) (s .header + s .blocks * blockSize s) (r .whole), fields-take t s (r .fields))
+    rw (le-leb 120 (length t) (r .long), is-table s (r .kind), le-leb 3 (s .version) (r .version-least), le-leb (s .version) 11 (r .version-most), unencrypted-takes t (encryptionAt (s .version)) (r .unencrypted), limits-take s (r .limits), eq-eqb (length t) (s .header + s .blocks * blockSize s) (r .whole), fields-take t s (r .fields))

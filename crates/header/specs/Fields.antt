@@ -9,8 +9,8 @@ use Rattle.words.specs.Numbers.{byte}
 use Rattle.header.specs.Kinds.{kindOf, isBlob}
 use Rattle.header.specs.Stored.{areaAt, namesAt}
 use Rattle.header.specs.declared.stored.Stored.{Stored}
-use Rattle.header.specs.declared.kind.Known.{Known}
-use Rattle.header.specs.declared.kind.Known.the-variants.{Kind, Unknown}
+use Rattle.header.specs.declared.kind.StoredKind.{StoredKind}
+use Rattle.header.specs.declared.kind.StoredKind.the-variants.{Kind, Unknown}
 
 -- ---- pairs: a type byte and a width byte a field
 
@@ -19,11 +19,11 @@ abbrev pub widthAt : List ℕ → ℕ → ℕ → ℕ
 widthAt t area f = byte t (area + 2 * f + 1)
 
 -- the kind that is stored for field f of a field area
-abbrev pub kindAt : List ℕ → ℕ → ℕ → Known
+abbrev pub kindAt : List ℕ → ℕ → ℕ → StoredKind
 kindAt t area f = kindOf (byte t (area + 2 * f)) (widthAt t area f)
 
 -- whether a field may be of this kind: one that the table has, and no blob where it is a key field
-unfoldable pub allowed : Bool → Known → Bool
+unfoldable pub allowed : Bool → StoredKind → Bool
 allowed keyed Unknown = false
 allowed keyed (Kind kind) = not (keyed && isBlob kind)
 
@@ -65,8 +65,7 @@ unfoldable pub namesFit : List ℕ → ℕ → ℕ → ℕ → Bool
 namesFit t end zero at = true
 namesFit t end (suc n) at = nameFits t end at && namesFit t end n (at + nameLength t at + 1)
 
--- ---- refusal 7
-
+-- 7: the pairs are right, the widths add up to the record size, and the names are inside the header
 unfoldable pub fieldsRight : List ℕ → Stored → Bool
 fieldsRight t s =
     each (pairRight t (areaAt (s .version)) (s .keys)) (s .fields)

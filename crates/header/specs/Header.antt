@@ -11,35 +11,41 @@ use Rattle.header.specs.Stored.{storedOf, blockSize, encryptionAt, areaA
 use Rattle.header.specs.Fields.{widthAt, kindAt, widthSum, offsetsOf, fieldsRight}
 use Rattle.header.specs.declared.Header.{Header}
 use Rattle.header.specs.declared.stored.Stored.{Stored}
-use Rattle.header.specs.declared.kind.Known.{Known}
-use Rattle.header.specs.declared.kind.Known.the-variants.{Kind, Unknown}
+use Rattle.header.specs.declared.kind.StoredKind.{StoredKind}
+use Rattle.header.specs.declared.kind.StoredKind.the-variants.{Kind, Unknown}
 use Rattle.header.specs.declared.field.Field.{Field}
 use Rattle.header.specs.declared.field.Field.the-variants.{Is, Missing}
 
 -- ---- the limits, by name
 
+-- 1 and 5: the least length of a file, and the least header size
 abbrev pub leastHeader : ℕ
 leastHeader = 120
 
+-- 3: the versions, 03 to 0B
 abbrev pub leastVersion : ℕ
 leastVersion = 0x03
 
 abbrev pub mostVersion : ℕ
 mostVersion = 0x0B
 
+-- 5: the largest block, in units of 1,024
 abbrev pub mostUnits : ℕ
 mostUnits = 4
 
--- a block's head, before its records
+-- 5: a block's head, which a record leaves free
 abbrev pub blockHead : ℕ
 blockHead = 6
 
+-- 5: the most blocks in a file
 abbrev pub mostBlocks : ℕ
 mostBlocks = 32767
 
+-- 5: the most fields
 abbrev pub mostFields : ℕ
 mostFields = 255
 
+-- 5: the largest signed 32-bit number; a count above it is below 0
 abbrev pub mostRecords : ℕ
 mostRecords = 2147483647
 
@@ -58,8 +64,8 @@ unfoldable pub knownVersion : Stored → Bool
 knownVersion s = leb leastVersion (s .version) && leb (s .version) mostVersion
 
 -- 4: the four encryption bytes are zero
-unfoldable pub plain : List ℕ → ℕ → Bool
-plain t at = each (λ (i : ℕ). eqb (byte t (at + i)) 0) 4
+unfoldable pub unencrypted : List ℕ → ℕ → Bool
+unencrypted t at = each (λ (i : ℕ). eqb (byte t (at + i)) 0) 4
 
 -- 5: byte 04 is 0 exactly when there are key fields, and then the sort byte is 0, plain byte order
 unfoldable pub keyedRight : Stored → Bool
@@ -84,7 +90,7 @@ limitsKept s =
 unfoldable pub lengthRight : ℕ → Stored → Bool
 lengthRight long s = eqb long (s .header + s .blocks * blockSize s)
 
--- 7 is fieldsRight
+-- 7: fieldsRight, of Fields
 
 -- the first broken rule's number, or 0
 unfoldable pub headerAnswer : List ℕ → ℕ
@@ -92,7 +98,7 @@ headerAnswer t =
     firstBroken (longEnough t) tooShort
     (firstBroken (isTable (storedOf t)) notATable
     (firstBroken (knownVersion (storedOf t)) unknownVersion
-    (firstBroken (plain t (encryptionAt (storedOf t .version))) encrypted
+    (firstBroken (unencrypted t (encryptionAt (storedOf t .version))) encrypted
     (firstBroken (limitsKept (storedOf t)) headerLimit
     (firstBroken (lengthRight (length t) (storedOf t)) wrongLength
     (firstBroken (fieldsRight t (storedOf t)) fieldRule 0))))))
@@ -148,6 +154,7 @@ unfoldable pub acceptedOf : List ℕ → Stored → Header
 acceptedOf t s =
     acceptedWith s (widthSum t (areaAt (s .version)) (s .keys)) (offsetsOf t (areaAt (s .version)) (s .fields))
 
+-- the answer by its number: 0 has the numbers, any other has none
 unfoldable pub answerWith : ℕ → List ℕ → Header
 answerWith zero t = acceptedOf t (storedOf t)
 answerWith (suc number) t = refusedWith (suc number)
@@ -158,7 +165,8 @@ headerOf t = answerWith (headerAnswer t) t
 
 -- ---- a field, counted from 1 as document 01 counts them
 
-unfoldable pub fieldWith : Known → ℕ → ℕ → Field
+-- a field of a kind that the table has; an accepted table has no other
+unfoldable pub fieldWith : StoredKind → ℕ → ℕ → Field
 fieldWith (Kind kind) width offset = Is kind width offset
 fieldWith Unknown width offset = Missing
 

@@ -6,8 +6,8 @@ use mathlib.Core.List.{List, [], _∷_}
 use lib.Dec.{eqb, leb}
 use Rattle.header.specs.declared.kind.FieldKind.{FieldKind}
 use Rattle.header.specs.declared.kind.FieldKind.the-variants.{Text, Date, Short, Long, Number, Logical, Blob}
-use Rattle.header.specs.declared.kind.Known.{Known}
-use Rattle.header.specs.declared.kind.Known.the-variants.{Kind, Unknown}
+use Rattle.header.specs.declared.kind.StoredKind.{StoredKind}
+use Rattle.header.specs.declared.kind.StoredKind.the-variants.{Kind, Unknown}
 
 -- a row of the table: a code, its kind, the least and the most width
 pub data Row : Type 0 where
@@ -31,16 +31,16 @@ kinds =
     ∷ []
 
 -- a kind, where the width is permitted
-unfoldable pub permit : FieldKind → ℕ → ℕ → ℕ → Known
+unfoldable pub permit : FieldKind → ℕ → ℕ → ℕ → StoredKind
 permit kind width least most = cond (leb least width && leb width most) (Kind kind) Unknown
 
 -- the kind of the row with this code
-unfoldable pub kindIn : List Row → ℕ → ℕ → Known
+unfoldable pub kindIn : List Row → ℕ → ℕ → StoredKind
 kindIn [] code width = Unknown
 kindIn (row its kind least most ∷ rest) code width = cond (eqb code its) (permit kind width least most) (kindIn rest code width)
 
 -- the kind of a field stored as this code and width, Unknown where the table has no such pair
-unfoldable pub kindOf : ℕ → ℕ → Known
+unfoldable pub kindOf : ℕ → ℕ → StoredKind
 kindOf code width = kindIn kinds code width
 
 -- whether a kind is a blob's

@@ -13,7 +13,7 @@ use Rattle.header.specs.declared.Header.{Header}
 use Rattle.header.specs.declared.stored.Stored.{Stored}
 use Rattle.header.specs.declared.kind.FieldKind.{FieldKind}
 use Rattle.header.specs.declared.kind.FieldKind.the-variants.{Blob}
-use Rattle.header.specs.declared.kind.Known.the-variants.{Kind, Unknown}
+use Rattle.header.specs.declared.kind.StoredKind.the-variants.{Kind, Unknown}
 
 -- 5: every number within its limit
 pub record Limits (s : Stored) : Type 0 where
@@ -60,7 +60,7 @@ pub record HeaderRules (t : List ℕ) : Type 0 where
   pub version-least : leastVersion ≤ storedOf t .version
   pub version-most : storedOf t .version ≤ mostVersion
   -- 4: no encryption
-  pub plain : (i : ℕ) → i < 4 → byte t (encryptionAt (storedOf t .version) + i) ≡ 0
+  pub unencrypted : (i : ℕ) → i < 4 → byte t (encryptionAt (storedOf t .version) + i) ≡ 0
   -- 5
   pub limits : Limits (storedOf t)
   -- 6

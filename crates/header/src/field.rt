@@ -4,7 +4,7 @@ ghost use Rattle.header.specs.Header.{fieldOf};
 ghost use Rattle.header.specs.Rules.{Accepted};
 use crate::Header;
 use crate::kind::FieldKind;
-use crate::kind::Known;
+use crate::kind::StoredKind;
 
 // Its kind, its width and where it begins in a record; or that the table has no such field.
 pub enum Field {
@@ -32,7 +32,7 @@ pub fn field_of(t: &[u8], h: Header, f: usize) -> Field
     let at = h.area as usize + 2 * i;
     let code = t[at];
     let width = t[at + 1];
-    let Known::Kind(kind) = FieldKind::of(code, width as usize) else {
+    let StoredKind::Kind(kind) = FieldKind::of(code, width as usize) else {
         return Field::Missing;
     };
     Field::Is {

@@ -9,7 +9,7 @@ ghost use Rattle.header.specs.Kinds.{kindOf};
 ghost use Rattle.header.specs.Fields.{allowed, offsetsOf, pairRight};
 ghost use Rattle.header.specs.Steps.{widthIf};
 use crate::kind::FieldKind;
-use crate::kind::Known;
+use crate::kind::StoredKind;
 
 // The width of a field whose pair is right.
 pub enum Width {
@@ -24,7 +24,7 @@ fn width_at(t: &[u8], at: usize, keyed: bool) -> Width
 {
     let code = t[at];
     let width = t[at + 1];
-    let Known::Kind(kind) = FieldKind::of(code, width as usize) else {
+    let StoredKind::Kind(kind) = FieldKind::of(code, width as usize) else {
         return Width::Refused;
     };
     if keyed & kind.is_blob() {

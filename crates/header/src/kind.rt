@@ -15,7 +15,7 @@ pub enum FieldKind {
 }
 
 // The kind of a stored pair of code and width, or none where the table has no such pair.
-pub enum Known {
+pub enum StoredKind {
     Kind(FieldKind),
     Unknown,
 }
@@ -62,59 +62,22 @@ impl FieldKind {
     pub const BLOB_MOST: usize = 250;
 
     // The kind of a field that is stored as this code and width.
-    pub fn of(code: u8, width: usize) -> Known
+    pub fn of(code: u8, width: usize) -> StoredKind
         ensures { λ r. ⌜ r ≡ kindOf code width ⌝ }
     {
-        if code == Self::TEXT {
-            return permitted(FieldKind::Text, width, Self::TEXT_LEAST, Self::TEXT_MOST);
-        }
-        if code == Self::DATE {
-            return permitted(FieldKind::Date, width, Self::DATE_WIDTH, Self::DATE_WIDTH);
-        }
-        if code == Self::SHORT {
-            return permitted(
-                FieldKind::Short,
-                width,
-                Self::SHORT_WIDTH,
-                Self::SHORT_WIDTH,
-            );
-        }
-        if code == Self::LONG {
-            return permitted(FieldKind::Long, width, Self::LONG_WIDTH, Self::LONG_WIDTH);
-        }
-        if code == Self::CURRENCY {
-            return permitted(
-                FieldKind::Number,
-                width,
-                Self::NUMBER_WIDTH,
-                Self::NUMBER_WIDTH,
-            );
-        }
-        if code == Self::NUMBER {
-            return permitted(
-                FieldKind::Number,
-                width,
-                Self::NUMBER_WIDTH,
-                Self::NUMBER_WIDTH,
-            );
-        }
-        if code == Self::LOGICAL {
-            return permitted(
-                FieldKind::Logical,
-                width,
-                Self::LOGICAL_WIDTH,
-                Self::LOGICAL_WIDTH,
-            );
-        }
-        if code == Self::MEMO {
-            return permitted(FieldKind::Blob, width, Self::MEMO_LEAST, Self::BLOB_MOST);
-        }
-        if Self::BLOB_FIRST <= code {
-            if code <= Self::BLOB_LAST {
-                return permitted(FieldKind::Blob, width, Self::BLOB_LEAST, Self::BLOB_MOST);
+        match code {
+            Self::TEXT => permitted(FieldKind::Text, width, Self::TEXT_LEAST, Self::TEXT_MOST),
+            Self::DATE => exactly(FieldKind::Date, width, Self::DATE_WIDTH),
+            Self::SHORT => exactly(FieldKind::Short, width, Self::SHORT_WIDTH),
+            Self::LONG => exactly(FieldKind::Long, width, Self::LONG_WIDTH),
+            Self::CURRENCY | Self::NUMBER => exactly(FieldKind::Number, width, Self::NUMBER_WIDTH),
+            Self::LOGICAL => exactly(FieldKind::Logical, width, Self::LOGICAL_WIDTH),
+            Self::MEMO => permitted(FieldKind::Blob, width, Self::MEMO_LEAST, Self::BLOB_MOST),
+            Self::BLOB_FIRST..=Self::BLOB_LAST => {
+                permitted(FieldKind::Blob, width, Self::BLOB_LEAST, Self::BLOB_MOST)
             }
+            _ => StoredKind::Unknown,
         }
-        Known::Unknown
     }
 
     pub fn is_blob(self) -> bool
@@ -133,13 +96,20 @@ impl FieldKind {
 }
 
 // The kind, where the width is within its limits.
-fn permitted(kind: FieldKind, width: usize, least: usize, most: usize) -> Known
+fn permitted(kind: FieldKind, width: usize, least: usize, most: usize) -> StoredKind
     ensures { λ r. ⌜ r ≡ permit kind width least most ⌝ }
 {
     if least <= width {
         if width <= most {
-            return Known::Kind(kind);
+            return StoredKind::Kind(kind);
         }
     }
-    Known::Unknown
+    StoredKind::Unknown
+}
+
+// The kind, where the width is its only one.
+fn exactly(kind: FieldKind, width: usize, only: usize) -> StoredKind
+    ensures { λ r. ⌜ r ≡ permit kind width only only ⌝ }
+{
+    permitted(kind, width, only, only)
 }

@@ -11,7 +11,7 @@ mod stored;
 pub use field::Field;
 pub use field::field_of;
 pub use kind::FieldKind;
-pub use kind::Known;
+pub use kind::StoredKind;
 ghost use mathlib.Core.Path.{_≡_};
 ghost use Rattle.header.specs.Header.{headerOf};
 use crate::answer::refused;
@@ -60,7 +60,7 @@ pub fn read(t: &[u8]) -> Header
     if !rules::known_version(s) {
         return refused(refusal::UNKNOWN_VERSION);
     }
-    if !rules::is_plain(t, stored::encryption_at(s.version)) {
+    if !rules::is_unencrypted(t, stored::encryption_at(s.version)) {
         return refused(refusal::ENCRYPTED);
     }
     if !rules::limits_kept(s) {

@@ -4,7 +4,7 @@ ghost use Prim.Native.Nat.{_+_, _≤_};
 ghost use lib.Dec.{ltb};
 ghost use lib.ListN.{length};
 ghost use Rattle.header.specs.Stored.{namesAt};
-ghost use Rattle.header.specs.Header.{isTable, keyedRight, knownVersion, lengthRight, limitsKept, plain};
+ghost use Rattle.header.specs.Header.{isTable, keyedRight, knownVersion, lengthRight, limitsKept, unencrypted};
 use crate::stored::Stored;
 use crate::stored::block_size;
 use crate::stored::names_at;
@@ -49,9 +49,9 @@ pub fn known_version(s: Stored) -> bool
 }
 
 // Rule 4, of the four bytes at a place.
-pub fn is_plain(t: &[u8], at: usize) -> bool
+pub fn is_unencrypted(t: &[u8], at: usize) -> bool
     requires { ⌜ at + 4 ≤ length (now t) ⌝ }
-    ensures { λ r. ⌜ r ≡ plain (now (t .entry)) at ⌝ }
+    ensures { λ r. ⌜ r ≡ unencrypted (now (t .entry)) at ⌝ }
 {
     (t[at] == 0) & (t[at + 1] == 0) & (t[at + 2] == 0) & (t[at + 3] == 0)
 }

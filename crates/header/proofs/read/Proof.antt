@@ -9,7 +9,7 @@ use lib.ListN.{length}
 use borrow.Author.Needs.{needs}
 use borrow.Author.Tests.{not-true, not-false, le-leb, lt-leb, ltb-true, ltb-false, eqb-true}
 use Rattle.header.specs.Stored.{storedOf, blockSize, encryptionAt, namesAt}
-use Rattle.header.specs.Header.{longEnough, isTable, knownVersion, plain, limitsKept, lengthRight, headerOf}
+use Rattle.header.specs.Header.{longEnough, isTable, knownVersion, unencrypted, limitsKept, lengthRight, headerOf}
 use Rattle.header.specs.Steps.{fieldsAnswer}
 use Rattle.header.specs.Rules.{Limits}
 use Rattle.header.proofs.HeaderLaws.{broken-1, broken-2, broken-3, broken-4, broken-5, broken-6, last-rule, fields-broken, no-room}
@@ -41,10 +41,10 @@ kept3 e = sym (verdict3 (e .before)) ∙ not-false _ (e .if3 .left)
 place : (d : tie.After-encryption-at) → d .encryption-at .result ≡ encryptionAt (storedOf (T (d .before .before .before .before .before)) .version)
 place d = rw (d .before .before .before .before .before .read-stored .ensures) at (d .encryption-at .ensures)
 
-verdict4 : (d : tie.After-is-plain) → d .is-plain .result ≡ plain (T (d .before .before .before .before .before .before)) (encryptionAt (storedOf (T (d .before .before .before .before .before .before)) .version))
-verdict4 d = rw (place (d .before)) at (d .is-plain .ensures)
+verdict4 : (d : tie.After-is-unencrypted) → d .is-unencrypted .result ≡ unencrypted (T (d .before .before .before .before .before .before)) (encryptionAt (storedOf (T (d .before .before .before .before .before .before)) .version))
+verdict4 d = rw (place (d .before)) at (d .is-unencrypted .ensures)
 
-kept4 : (e : tie.Else4) → plain (T (e .before .before .before .before .before .before .before)) (encryptionAt (storedOf (T (e .before .before .before .before .before .before .before)) .version)) ≡ true
+kept4 : (e : tie.Else4) → unencrypted (T (e .before .before .before .before .before .before .before)) (encryptionAt (storedOf (T (e .before .before .before .before .before .before .before)) .version)) ≡ true
 kept4 e = sym (verdict4 (e .before)) ∙ not-false _ (e .if4 .left)
 
 verdict5 : (d : tie.After-limits-kept) → d .limits-kept .result ≡ limitsKept (storedOf (T (d .before .before .before .before .before .before .before .before)))
@@ -141,8 +141,8 @@ returns-3 c =
 encryption-at-requires : tie.Need-encryption-at-requires
 encryption-at-requires c κs = search needs
 
-is-plain-requires : tie.Need-is-plain-requires
-is-plain-requires c κs =
+is-unencrypted-requires : tie.Need-is-unencrypted-requires
+is-unencrypted-requires c κs =
     let r = c .before .before .before .before .before in
     omega (arith, place c, encryption-most (storedOf (T r) .version), r .before .if1 .left)
 
@@ -229,7 +229,7 @@ read-spec =
     refused-requires-3
     returns-3
     encryption-at-requires
-    is-plain-requires
+    is-unencrypted-requires
     refused-requires-4
     returns-4
     limits-kept-requires

@@ -4,7 +4,7 @@ use Prim.Native.Nat.{_+_, _*_, _-_}
 use native.Mathlib.Omega.{arith}
 use Rattle.header.specs.Header.{fieldWith}
 use Rattle.header.specs.Fields.{kindAt}
-use Rattle.header.specs.declared.kind.Known.the-variants as Known
+use Rattle.header.specs.declared.kind.StoredKind.the-variants as StoredKind
 use Rattle.header.proofs.AcceptedLaws.{field-low, field-high, field-here}
 use borrow.Author.Needs.{needs}
 use Rattle.header.proofs.field.field_of.Statement.{statement}
@@ -53,7 +53,7 @@ returns-3 : tie.Need-returns-3
 unfolding fieldWith
 returns-3 c =
     let v = c .before .before .before .before .before .before .before .before .args in
-    let e : kindAt (v .t .now) (v .t2 .area) (v .f - 1) ≡ Known.Unknown = sym (c .before .before .of .ensures) ∙ c .enum-told .given .1 in
+    let e : kindAt (v .t .now) (v .t2 .area) (v .f - 1) ≡ StoredKind.Unknown = sym (c .before .before .of .ensures) ∙ c .enum-told .given .1 in
     sym (field-here (v .t .now) (v .t2) (v .f) (search needs) (search needs) ∙ rw e)
 
 mul-t13 : tie.Need-mul-t13
@@ -66,7 +66,7 @@ returns-4 : tie.Need-returns-4
 unfolding fieldWith
 returns-4 c =
     let v = c .before .before .before .before .before .before .before .before .before .before .args in
-    let e : kindAt (v .t .now) (v .t2 .area) (v .f - 1) ≡ Known.Kind (c .before .before .kind .given .0 .0) = sym (c .before .before .before .before .of .ensures) ∙ c .before .before .kind .given .1 in
+    let e : kindAt (v .t .now) (v .t2 .area) (v .f - 1) ≡ StoredKind.Kind (c .before .before .kind .given .0 .0) = sym (c .before .before .before .before .of .ensures) ∙ c .before .before .kind .given .1 in
     sym (field-here (v .t .now) (v .t2) (v .f) (search needs) (search needs) ∙ rw (e, ← c .before .before .before .before .before .before .before .before .before .before .pre .offset (v .f - 1) (search needs)))
 
 pub field-of-spec : {M : Type 1} → statement M

@@ -1,10 +1,10 @@
--- `is_plain` meets its contract. Assumes nothing.
+-- `is_unencrypted` meets its contract. Assumes nothing.
 use native.Mathlib.Nat.{add-zero}
 use Rattle.words.specs.Each.{each}
-use Rattle.header.specs.Header.{plain}
+use Rattle.header.specs.Header.{unencrypted}
 use borrow.Author.Needs.{needs}
-use Rattle.header.proofs.rules.is_plain.Statement.{statement}
-use Rattle.header.proofs.rules.is_plain.Tie as tie
+use Rattle.header.proofs.rules.is_unencrypted.Statement.{statement}
+use Rattle.header.proofs.rules.is_unencrypted.Tie as tie
 
 shared-slice-read-result : tie.Need-shared-slice-read-result
 shared-slice-read-result c = search needs
@@ -28,11 +28,11 @@ shared-slice-read-result-4 : tie.Need-shared-slice-read-result-4
 shared-slice-read-result-4 c = search needs
 
 returns : tie.Need-returns
-unfolding plain each
+unfolding unencrypted each
 returns c = rw add-zero
 
-pub is-plain-spec : {M : Type 1} → statement M
-is-plain-spec =
+pub is-unencrypted-spec : {M : Type 1} → statement M
+is-unencrypted-spec =
     tie.close
     (tie.spec
     shared-slice-read-result
