@@ -15,7 +15,7 @@ names-at-requires c κs = search needs
 
 returns : tie.Need-returns
 unfolding acceptedWith
-returns c = cc
+returns c = rw (c .names-at .ensures, c .before .area-at .ensures, c .before .before .block-bytes .ensures)
 
 pub accepted-spec : {M : Type 1} → statement M
 accepted-spec =

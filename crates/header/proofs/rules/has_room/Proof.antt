@@ -7,7 +7,7 @@ names-at-requires : tie.Need-names-at-requires
 names-at-requires c κs = search needs
 
 returns : tie.Need-returns
-returns c = cc
+returns c = rw (c .before .names-at .ensures)
 
 pub has-room-spec : {M : Type 1} → statement M
 has-room-spec = tie.close (tie.spec names-at-requires returns)

@@ -32,7 +32,7 @@ add-result c =
 
 returns : tie.Need-returns
 unfolding lengthRight
-returns c = cc
+returns c = rw (c .before .before .block-size .ensures)
 
 pub is-length-right-spec : {M : Type 1} → statement M
 is-length-right-spec =
