@@ -16,11 +16,12 @@ use Rattle.words.proofs.EachLaws.{each-more, each-fails}
 use Rattle.header.specs.Kinds.{isBlob}
 use Rattle.header.specs.Stored.{areaAt}
 use Rattle.header.specs.Fields.{allowed, widthAt, pairRight, widthSum, offsetsOf}
-use Rattle.header.specs.Steps.{widthIf}
+use Rattle.header.specs.Steps.{judgedIf}
 use Rattle.header.specs.declared.kind.FieldKind.{FieldKind}
 use Rattle.header.specs.declared.kind.StoredKind.{StoredKind}
 use Rattle.header.specs.declared.kind.StoredKind.the-variants.{Kind, Unknown}
-use Rattle.header.specs.declared.fields.Width.the-variants.{Of, Refused}
+use Rattle.header.specs.declared.judged.Judged.the-variants.{Good, Bad}
+use Rattle.header.proofs.JudgedLaws.{judged-good, judged-bad}
 
 -- the field area begins at 58 or 78
 pub area-most : (version : ℕ) → areaAt version ≤ 0x78
@@ -32,24 +33,13 @@ area-most version = go (leb version 0x04)
 
 -- ---- a pair
 
-pub width-unknown : (keyed : Bool) (k : StoredKind) (w : ℕ) → k ≡ Unknown → widthIf (allowed keyed k) w ≡ Refused
-unfolding widthIf allowed
+pub width-unknown : (keyed : Bool) (k : StoredKind) (w : ℕ) → k ≡ Unknown → judgedIf (allowed keyed k) w ≡ Bad
+unfolding judgedIf allowed
 width-unknown keyed k w e = rw e
 
-pub width-known : (keyed : Bool) (k : StoredKind) (kind : FieldKind) (w : ℕ) (t : Bool) → k ≡ Kind kind → (keyed && isBlob kind) ≡ t → widthIf (allowed keyed k) w ≡ widthIf (not t) w
+pub width-known : (keyed : Bool) (k : StoredKind) (kind : FieldKind) (w : ℕ) (t : Bool) → k ≡ Kind kind → (keyed && isBlob kind) ≡ t → judgedIf (allowed keyed k) w ≡ judgedIf (not t) w
 unfolding allowed
 width-known keyed k kind w t e f = rw (e, f)
-
--- a width that is given says that the pair is right, and which width it is
-pub width-right : (t : Bool) (w v : ℕ) → widthIf t w ≡ Of v → (t ≡ true) × (v ≡ w)
-unfolding widthIf
-width-right true w v e = (refl, cc)
-width-right false w v e = let z : _≡_ {A = ℕ} 0 1 = cc in absurd (omega arith)
-
-pub width-wrong : (t : Bool) (w : ℕ) → widthIf t w ≡ Refused → t ≡ false
-unfolding widthIf
-width-wrong false w e = refl
-width-wrong true w e = let z : _≡_ {A = ℕ} 0 1 = cc in absurd (omega arith)
 
 -- ---- widths added up
 
@@ -81,14 +71,18 @@ unfolding widthSum each offsetsOf
 added-none t area keys n offsets e = (omega arith, refl, refl, e)
 
 module _ (t : List ℕ) (area keys n : ℕ) (offsets : List ℕ) (sum f : ℕ) (p : Added t area keys n offsets sum f) (l : f < n) where
-  pub added-more : (width : ℕ) → widthIf (pairRight t area keys f) (widthAt t area f) ≡ Of width → Added t area keys n (set offsets (f + 1) (sum + width)) (sum + width) (f + 1)
+  pub added-more : (width : ℕ) → judgedIf (pairRight t area keys f) (widthAt t area f) ≡ Good width → Added t area keys n (set offsets (f + 1) (sum + width)) (sum + width) (f + 1)
   added-more width e =
-      let q = width-right (pairRight t area keys f) (widthAt t area f) width e in
+      let q = judged-good (pairRight t area keys f) (widthAt t area f) width e in
       let s : sum + width ≡ widthSum t area (f + 1) = rw (p .1, q .1) (sym (sum-more t area f)) in
       (omega arith, s, each-more (pairRight t area keys) f (p .2) (q .0), rw (p .3, s) (offsets-more t area f))
 
-  pub added-broken : widthIf (pairRight t area keys f) (widthAt t area f) ≡ Refused → each (pairRight t area keys) n ≡ false
-  added-broken e = each-fails (pairRight t area keys) n f l (width-wrong (pairRight t area keys f) (widthAt t area f) e)
+  pub added-broken : judgedIf (pairRight t area keys f) (widthAt t area f) ≡ Bad → each (pairRight t area keys) n ≡ false
+  added-broken e = each-fails (pairRight t area keys) n f l (judged-bad (pairRight t area keys f) (widthAt t area f) e)
+
+  -- a width is a byte
+  pub added-byte : Bytes t → (width : ℕ) → judgedIf (pairRight t area keys f) (widthAt t area f) ≡ Good width → width < 256
+  added-byte h width e = rw (judged-good (pairRight t area keys f) (widthAt t area f) width e .1) (h (area + 2 * f + 1))
 
   -- the sum fits a word
   pub added-small : Bytes t → n ≤ 255 → (width : ℕ) → width < 256 → sum + width < 65536

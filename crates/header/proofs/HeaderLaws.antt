@@ -1,12 +1,13 @@
 -- The answer of a header, rule by rule in document 01's order. Assumes nothing.
 use Prim.Native.Nat.{ℕ, _≤_}
 use mathlib.Core.Path.{_≡_, refl, _∙_}
-use mathlib.Core.Bool.{Bool, true, false, _&&_}
+use mathlib.Core.Bool.{Bool, true, false}
 use mathlib.Core.List.{List}
 use lib.Dec.{eqb}
 use lib.ListN.{length, getD}
 use borrow.Author.Tests.{eq-eqb, ne-eqb}
 use Rattle.words.specs.Each.{each}
+use Rattle.words.proofs.Conjunctions.{and-second, and-third}
 use Rattle.header.specs.Stored.{storedOf, encryptionAt, areaAt, namesAt}
 use Rattle.header.specs.Fields.{pairRight, widthSum, offsetsOf, namesFit, fieldsRight}
 use Rattle.header.specs.Header.{longEnough, isTable, knownVersion, unencrypted, limitsKept, lengthRight, headerAnswer, refusedWith, acceptedWith, acceptedOf, answerWith, headerOf}
@@ -16,15 +17,6 @@ use Rattle.header.proofs.FieldLaws.{offset-at}
 use Rattle.header.proofs.NameLaws.{names-outside}
 
 -- ---- rule 7 broken, or kept
-
-and-second : (p q r : Bool) → q ≡ false → (p && q && r) ≡ false
-and-second true q r e = rw e
-and-second false q r e = refl
-
-and-third : (p q r : Bool) → r ≡ false → (p && q && r) ≡ false
-and-third true true r e = e
-and-third true false r e = refl
-and-third false q r e = refl
 
 module _ (t : List ℕ) (s : Stored) where
   pub fields-broken : fieldsRight t s ≡ false → fieldsAnswer t s ≡ refusedWith 7

@@ -1,4 +1,5 @@
 pub mod KindLaws
+pub mod JudgedLaws
 pub mod FieldLaws
 pub mod NameLaws
 pub mod HeaderLaws

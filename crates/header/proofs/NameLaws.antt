@@ -1,16 +1,18 @@
 -- The names: one found a byte at a time, and several one after another. Assumes nothing.
 use Prim.Native.Nat.{ℕ, zero, suc, _+_, _-_, _≤_, _<_}
-use mathlib.Core.Path.{_≡_, refl, sym, _∙_}
-use mathlib.Core.Bool.{Bool, true, false, _&&_, and-eq-true-iff}
+use mathlib.Core.Path.{_≡_, sym, _∙_}
+use mathlib.Core.Bool.{true, false, _&&_, and-eq-true-iff}
 use mathlib.Core.List.{List}
 use native.Mathlib.Nat.{add-zero, zero-add, sub-zero}
 use native.Mathlib.Omega.{arith}
 use lib.Dec.{leb, ltb}
 use borrow.Author.Tests.{eq-eqb, ne-eqb, le-leb, lt-leb, lt-ltb, le-ltb, ltb-true}
 use Rattle.words.specs.Numbers.{byte}
+use Rattle.words.proofs.Conjunctions.{and-second, and-third}
 use Rattle.header.specs.Fields.{beforeZero, nameLength, nameFits, namesFit}
-use Rattle.header.specs.Steps.{nextIf, nextName}
-use Rattle.header.specs.declared.names.Name.the-variants.{Next, Refused}
+use Rattle.header.specs.Steps.{judgedIf, nextName}
+use Rattle.header.specs.declared.judged.Judged.the-variants.{Good, Bad}
+use Rattle.header.proofs.JudgedLaws.{judged-good, judged-bad}
 
 -- ---- the bytes before a zero, after i of them
 
@@ -41,47 +43,28 @@ module _ (t : List ℕ) (at i : ℕ) (p : Passed t at i) where
 
 -- ---- a name that fits, or not
 
-and-last : (p q : Bool) → (p && q && false) ≡ false
-and-last true true = refl
-and-last true false = refl
-and-last false q = refl
-
-and-middle : (p q : Bool) → (p && false && q) ≡ false
-and-middle true q = refl
-and-middle false q = refl
-
 module _ (t : List ℕ) (end at : ℕ) where
-  fits-not : nameFits t end at ≡ false → nextName t end at ≡ Refused
-  unfolding nextName nextIf
+  fits-not : nameFits t end at ≡ false → nextName t end at ≡ Bad
+  unfolding nextName judgedIf
   fits-not e = rw e
 
-  pub name-beyond : end ≤ at + nameLength t at → nextName t end at ≡ Refused
+  pub name-beyond : end ≤ at + nameLength t at → nextName t end at ≡ Bad
   unfolding nameFits
-  name-beyond h = fits-not (rw (le-ltb (at + nameLength t at) end h) (and-last (leb 1 (nameLength t at)) (leb (nameLength t at) 25)))
+  name-beyond h = fits-not (and-third (leb 1 (nameLength t at)) (leb (nameLength t at) 25) (ltb (at + nameLength t at) end) (le-ltb (at + nameLength t at) end h))
 
-  pub name-empty : nameLength t at ≡ 0 → nextName t end at ≡ Refused
+  pub name-empty : nameLength t at ≡ 0 → nextName t end at ≡ Bad
   unfolding nameFits
   name-empty e = fits-not (rw e)
 
-  pub name-long : 26 ≤ nameLength t at → nextName t end at ≡ Refused
+  pub name-long : 26 ≤ nameLength t at → nextName t end at ≡ Bad
   unfolding nameFits
-  name-long h = fits-not (rw (lt-leb (nameLength t at) 25 h) (and-middle (leb 1 (nameLength t at)) (ltb (at + nameLength t at) end)))
+  name-long h = fits-not (and-second (leb 1 (nameLength t at)) (leb (nameLength t at) 25) (ltb (at + nameLength t at) end) (lt-leb (nameLength t at) 25 h))
 
-  pub name-fits : (i : ℕ) → nameLength t at ≡ i → 1 ≤ i → i ≤ 25 → at + i < end → nextName t end at ≡ Next (at + i + 1)
-  unfolding nextName nextIf nameFits
+  pub name-fits : (i : ℕ) → nameLength t at ≡ i → 1 ≤ i → i ≤ 25 → at + i < end → nextName t end at ≡ Good (at + i + 1)
+  unfolding nextName judgedIf nameFits
   name-fits i e l m h = rw (e, le-leb 1 i l, le-leb i 25 m, lt-ltb (at + i) end h)
 
 -- ---- several names
-
-next-right : (b : Bool) (p q : ℕ) → nextIf b p ≡ Next q → (b ≡ true) × (q ≡ p)
-unfolding nextIf
-next-right true p q e = (refl, cc)
-next-right false p q e = let z : _≡_ {A = ℕ} 0 1 = cc in absurd (omega arith)
-
-next-wrong : (b : Bool) (p : ℕ) → nextIf b p ≡ Refused → b ≡ false
-unfolding nextIf
-next-wrong false p e = refl
-next-wrong true p e = let z : _≡_ {A = ℕ} 0 1 = cc in absurd (omega arith)
 
 -- what is left of the names fits exactly when all of them do
 abbrev pub NamesLeft : List ℕ → ℕ → ℕ → ℕ → ℕ → ℕ → Type 0
@@ -91,20 +74,20 @@ pub names-begin : (t : List ℕ) (end n start : ℕ) → start ≤ end → Names
 names-begin t end n start h = (omega arith, h, rw sub-zero)
 
 module _ (t : List ℕ) (end n start i at : ℕ) (p : NamesLeft t end n start i at) where
-  pub names-more : i < n → (next : ℕ) → nextName t end at ≡ Next next → NamesLeft t end n start (i + 1) next
+  pub names-more : i < n → (next : ℕ) → nextName t end at ≡ Good next → NamesLeft t end n start (i + 1) next
   unfolding nextName namesFit nameFits
   names-more l next e =
-      let q = next-right (nameFits t end at) (at + nameLength t at + 1) next e in
+      let q = judged-good (nameFits t end at) (at + nameLength t at + 1) next e in
       let r = and-eq-true-iff (leb 1 (nameLength t at) && leb (nameLength t at) 25) (ltb (at + nameLength t at) end) .0 (q .0) in
       let s : n - i ≡ suc (n - (i + 1)) = omega arith in
       let m : namesFit t end (n - i) at ≡ namesFit t end (n - (i + 1)) next = rw (s, q .0, q .1) in
       (omega arith, omega (arith, q .1, ltb-true (at + nameLength t at) end (r .1)), sym m ∙ p .2)
 
-  pub names-broken : i < n → nextName t end at ≡ Refused → namesFit t end n start ≡ false
+  pub names-broken : i < n → nextName t end at ≡ Bad → namesFit t end n start ≡ false
   unfolding nextName namesFit
   names-broken l e =
       let s : n - i ≡ suc (n - (i + 1)) = omega arith in
-      let b : nameFits t end at ≡ false = next-wrong (nameFits t end at) (at + nameLength t at + 1) e in
+      let b : nameFits t end at ≡ false = judged-bad (nameFits t end at) (at + nameLength t at + 1) e in
       let m : namesFit t end (n - i) at ≡ false = rw (s, b) in
       sym (p .2) ∙ m
 
@@ -118,4 +101,4 @@ unfolding namesFit nameFits
 names-outside t end zero at l h = absurd (omega arith)
 names-outside t end (suc n) at l h =
     let e : ltb (at + nameLength t at) end ≡ false = le-ltb (at + nameLength t at) end (omega arith) in
-    rw (e, and-last (leb 1 (nameLength t at)) (leb (nameLength t at) 25))
+    rw (and-third (leb 1 (nameLength t at)) (leb (nameLength t at) 25) (ltb (at + nameLength t at) end) e)

@@ -11,6 +11,7 @@ use lib.ListN.{length}
 use borrow.Author.Tests.{eq-eqb, ne-eqb, eqb-true, eqb-false, le-leb, lt-leb, leb-true, leb-false, lt-ltb, ltb-true, not-true}
 use Rattle.words.specs.Each.{each}
 use Rattle.words.specs.Numbers.{byte}
+use Rattle.words.proofs.Conjunctions.{both, join}
 use Rattle.words.proofs.EachLaws.{each-gives, each-takes}
 use Rattle.header.specs.Kinds.{isBlob}
 use Rattle.header.specs.Stored.{storedOf, blockSize, encryptionAt, areaAt, namesAt}
@@ -22,13 +23,6 @@ use Rattle.header.specs.declared.kind.FieldKind.{FieldKind}
 use Rattle.header.specs.declared.kind.FieldKind.the-variants.{Text, Date, Short, Long, Number, Logical, Blob}
 use Rattle.header.specs.declared.kind.StoredKind.{StoredKind}
 use Rattle.header.specs.declared.kind.StoredKind.the-variants.{Kind, Unknown}
-
--- both halves of a conjunction, and back
-both : {a b : Bool} → (a && b) ≡ true → (a ≡ true) × (b ≡ true)
-both {a} {b} e = and-eq-true-iff a b .0 e
-
-join : {a b : Bool} → a ≡ true → b ≡ true → (a && b) ≡ true
-join {a} {b} p q = and-eq-true-iff a b .1 (p, q)
 
 -- ---- 4
 

@@ -1,4 +1,4 @@
--- What the private functions of a field pass and a name pass answer. Only proofs speak of these. Definitions only.
+-- What the private functions of the pass over pairs and names ask and answer: no rule is stated here. Definitions only.
 use Prim.Native.Nat.{ℕ, _+_, _≤_, _<_}
 use mathlib.Core.Bool.{Bool, true, false, cond}
 use mathlib.Core.List.{List}
@@ -6,31 +6,25 @@ use lib.ListN.{length}
 use Rattle.header.specs.Refusals.{fieldRule}
 use Rattle.header.specs.Stored.{namesAt}
 use Rattle.header.specs.Fields.{nameLength, nameFits, fieldsRight}
-use Rattle.header.specs.Header.{acceptedOf, refusedWith}
+use Rattle.header.specs.Header.{mostUnits, mostFields, acceptedOf, refusedWith}
 use Rattle.header.specs.declared.Header.{Header}
 use Rattle.header.specs.declared.stored.Stored.{Stored}
-use Rattle.header.specs.declared.fields.Width.{Width}
-use Rattle.header.specs.declared.fields.Width.the-variants.{Of, Refused as NoWidth}
-use Rattle.header.specs.declared.names.Name.{Name}
-use Rattle.header.specs.declared.names.Name.the-variants.{Next, Refused as NoName}
+use Rattle.header.specs.declared.judged.Judged.{Judged}
+use Rattle.header.specs.declared.judged.Judged.the-variants.{Good, Bad}
 
--- the width of a field whose pair is right
-unfoldable pub widthIf : Bool → ℕ → Width
-widthIf true width = Of width
-widthIf false width = NoWidth
-
-unfoldable pub nextIf : Bool → ℕ → Name
-nextIf true at = Next at
-nextIf false at = NoName
+-- what judging a pair or a name gives: a number where it is right
+unfoldable pub judgedIf : Bool → ℕ → Judged
+judgedIf true n = Good n
+judgedIf false n = Bad
 
 -- where the name after the one at a place begins, if that one fits
-unfoldable pub nextName : List ℕ → ℕ → ℕ → Name
-nextName t end at = nextIf (nameFits t end at) (at + nameLength t at + 1)
+unfoldable pub nextName : List ℕ → ℕ → ℕ → Judged
+nextName t end at = judgedIf (nameFits t end at) (at + nameLength t at + 1)
 
 -- what rules 1 to 6 and room for the names give the pass over the fields
 pub record Placed (t : List ℕ) (s : Stored) : Type 0 where
-  pub units-most : s .units ≤ 4
-  pub fields-most : s .fields ≤ 255
+  pub units-most : s .units ≤ mostUnits
+  pub fields-most : s .fields ≤ mostFields
   pub keys-most : s .keys ≤ s .fields
   pub room : namesAt s < s .header
   pub inside : s .header ≤ length t

@@ -1,7 +1,8 @@
 // The answer of a header: refused with a number, or accepted once rule 7 is kept.
+// The module is private: its functions are helpers of `header::read`, which meets what they require.
 ghost use mathlib.Core.Path.{_≡_};
 ghost use Prim.Native.Nat.{_≤_};
-ghost use Rattle.header.specs.Header.{acceptedWith, refusedWith};
+ghost use Rattle.header.specs.Header.{acceptedWith, mostFields, mostUnits, refusedWith};
 ghost use Rattle.header.specs.Steps.{Placed, fieldsAnswer};
 use crate::Header;
 use crate::fields;
@@ -36,7 +37,7 @@ pub fn refused(number: u8) -> Header
 
 // The answer for a header that keeps every rule.
 fn accepted(s: Stored, key: u16, offsets: [u16; 256]) -> Header
-    requires { ⌜ (s .units ≤ 4) × (s .fields ≤ 255) ⌝ }
+    requires { ⌜ (s .units ≤ mostUnits) × (s .fields ≤ mostFields) ⌝ }
     ensures { λ r. ⌜ r ≡ acceptedWith s key offsets ⌝ }
 {
     Header {

@@ -16,7 +16,8 @@ pub enum Field {
     Missing,
 }
 
-// Field f, counted from 1. A helper of the crates above, which hold the header of the table.
+// Field f, counted from 1. A helper of the crates above and no call of a user: whoever calls it has read
+// the header of this table and found it accepted.
 pub fn field_of(t: &[u8], h: Header, f: usize) -> Field
     requires { ⌜ Accepted (now t) h ⌝ }
     ensures { λ r. ⌜ r ≡ fieldOf (now (t .entry)) h f ⌝ }

@@ -80,6 +80,7 @@ impl FieldKind {
         }
     }
 
+    // Whether a cell of this kind is a blob's, which no key field may be.
     pub fn is_blob(self) -> bool
         ensures { λ r. ⌜ r ≡ isBlob self ⌝ }
     {

@@ -2,6 +2,7 @@
 mod answer;
 mod field;
 mod fields;
+mod judged;
 mod kind;
 mod names;
 pub mod refusal;

@@ -1,10 +1,11 @@
 // Table rules 2 to 6 as tests of the stored numbers, and the limits that they name.
+// The module is private: its functions are helpers of `header::read`, which meets what they require.
 ghost use mathlib.Core.Path.{_≡_};
 ghost use Prim.Native.Nat.{_+_, _≤_};
 ghost use lib.Dec.{ltb};
 ghost use lib.ListN.{length};
 ghost use Rattle.header.specs.Stored.{namesAt};
-ghost use Rattle.header.specs.Header.{isTable, keyedRight, knownVersion, lengthRight, limitsKept, unencrypted};
+ghost use Rattle.header.specs.Header.{isTable, keyedRight, knownVersion, lengthRight, limitsKept, mostFields, unencrypted};
 use crate::stored::Stored;
 use crate::stored::block_size;
 use crate::stored::names_at;
@@ -97,7 +98,7 @@ pub fn is_length_right(long: usize, s: Stored) -> bool
 
 // Whether the names begin inside the header: where they don't, rule 7 is broken and no field is read.
 pub fn has_room(s: Stored) -> bool
-    requires { ⌜ s .fields ≤ 255 ⌝ }
+    requires { ⌜ s .fields ≤ mostFields ⌝ }
     ensures { λ r. ⌜ r ≡ ltb (namesAt s) (s .header) ⌝ }
 {
     names_at(s) < s.header

@@ -1,8 +1,10 @@
 // The numbers of a header as they are stored: where each stands, and what depends on the version.
+// The module is private: its functions are helpers of `header::read`, which meets what they require.
 ghost use mathlib.Core.Path.{_≡_};
 ghost use Prim.Native.Nat.{_+_, _*_, _≤_};
 ghost use lib.ListN.{length};
 ghost use Rattle.header.specs.Stored.{areaAt, encryptionAt, namesAt, storedOf};
+ghost use Rattle.header.specs.Header.{leastHeader, mostFields, mostUnits};
 
 // Where each number stands.
 const RECORD_SIZE: usize = 0x00;
@@ -69,7 +71,7 @@ pub struct Stored {
 
 // Each number is read once.
 pub fn read_stored(t: &[u8]) -> Stored
-    requires { ⌜ 120 ≤ length (now t) ⌝ }
+    requires { ⌜ leastHeader ≤ length (now t) ⌝ }
     ensures { λ r. ⌜ r ≡ storedOf (now (t .entry)) ⌝ }
 {
     Stored {
@@ -109,7 +111,7 @@ pub fn block_size(units: u8) -> u32
 
 // The block size of a header that keeps rule 5.
 pub fn block_bytes(units: u8) -> u16
-    requires { ⌜ units ≤ 4 ⌝ }
+    requires { ⌜ units ≤ mostUnits ⌝ }
     ensures { λ r. ⌜ r ≡ units * 1024 ⌝ }
 {
     block_size(units) as u16
@@ -128,7 +130,7 @@ pub fn area_at(version: u8) -> u16
 
 // Where the names begin.
 pub fn names_at(s: Stored) -> u16
-    requires { ⌜ s .fields ≤ 255 ⌝ }
+    requires { ⌜ s .fields ≤ mostFields ⌝ }
     ensures { λ r. ⌜ r ≡ namesAt s ⌝ }
 {
     area_at(s.version) + (NAMES_PER_FIELD * s.fields + NAMES_AFTER)

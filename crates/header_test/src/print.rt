@@ -1,4 +1,4 @@
-// What a header answers, as text.
+// What a header answers, as text. No contract can say what is written: it is compared with the file `stdout`.
 ghost use Rattle.header.specs.Rules.{Accepted};
 use header::Field;
 use header::FieldKind;

@@ -1,9 +1,12 @@
 // The tables that the vectors start from. Offsets are document 01's.
+// Test data has no contract: what the program prints of it is compared with its file `stdout`.
 ghost use Prim.Native.Nat.{_+_, _*_, _<_};
 
-// Version 09: a keyed 3-byte text and a short, header size 256, one block of 1,024, 2 records; the
-// names begin at D7.
-pub fn late() -> [u8; 2560] {
+// A keyed 3-byte text and a short, header size 256, one block of 1,024, 2 records, with the field area
+// and the names at the places given.
+fn two_fields(version: u8, area: usize, names: usize) -> [u8; 2560]
+    requires { ⌜ (area + 4 < 256) × (names + 8 < 256) ⌝ }
+{
     let mut t = [0u8; 2560];
     t[0x00] = 5;
     t[0x03] = 1;
@@ -14,47 +17,29 @@ pub fn late() -> [u8; 2560] {
     t[0x10] = 1;
     t[0x21] = 2;
     t[0x23] = 1;
-    t[0x39] = 0x09;
-    t[0x78] = 0x01;
-    t[0x79] = 3;
-    t[0x7a] = 0x03;
-    t[0x7b] = 2;
-    t[0xd7] = b'P';
-    t[0xd8] = b'a';
-    t[0xd9] = b'r';
-    t[0xda] = b't';
-    t[0xdc] = b'Q';
-    t[0xdd] = b't';
-    t[0xde] = b'y';
+    t[0x39] = version;
+    t[area] = 0x01;
+    t[area + 1] = 3;
+    t[area + 2] = 0x03;
+    t[area + 3] = 2;
+    t[names] = b'P';
+    t[names + 1] = b'a';
+    t[names + 2] = b'r';
+    t[names + 3] = b't';
+    t[names + 5] = b'Q';
+    t[names + 6] = b't';
+    t[names + 7] = b'y';
     t
 }
 
-// Version 04 with the same fields: the field area is at 58 and the names begin at B7.
+// Version 09: the field area is at 78, and the names of two fields begin at D7.
+pub fn late() -> [u8; 2560] {
+    two_fields(0x09, 0x78, 0xd7)
+}
+
+// Version 04: the field area is at 58, and the names of two fields begin at B7.
 pub fn early() -> [u8; 2560] {
-    let mut t = [0u8; 2560];
-    t[0x00] = 5;
-    t[0x03] = 1;
-    t[0x05] = 1;
-    t[0x06] = 2;
-    t[0x0c] = 1;
-    t[0x0e] = 1;
-    t[0x10] = 1;
-    t[0x21] = 2;
-    t[0x23] = 1;
-    t[0x39] = 0x04;
-    t[0x4d] = 0;
-    t[0x58] = 0x01;
-    t[0x59] = 3;
-    t[0x5a] = 0x03;
-    t[0x5b] = 2;
-    t[0xb7] = b'P';
-    t[0xb8] = b'a';
-    t[0xb9] = b'r';
-    t[0xba] = b't';
-    t[0xbc] = b'Q';
-    t[0xbd] = b't';
-    t[0xbe] = b'y';
-    t
+    two_fields(0x04, 0x58, 0xb7)
 }
 
 // The late table with a second name of 25 bytes, DC to F4.

@@ -1,3 +1,4 @@
+pub mod Conjunctions
 pub mod EachLaws
 pub mod NumberLaws
 pub mod OrderLaws

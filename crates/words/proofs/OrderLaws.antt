@@ -59,7 +59,7 @@ order-same (x ∷ xs) (y ∷ ys) h = go (first x y) h (order-same xs ys)
     go (level e) w ih = let r : xs ≡ ys = ih w in cc
 
 -- turning the two ranges round turns the order round
-pub turned : Order → Order
+unfoldable pub turned : Order → Order
 turned Less = More
 turned Same = Same
 turned More = Less

@@ -3,7 +3,7 @@ use Prim.Native.Nat.{ℕ, zero, suc, _+_, _*_, _^_, _<_}
 use mathlib.Core.List.{List}
 use lib.ListN.{getD}
 
--- the byte at a place; past the end it counts as 0, and no rule reads there
+-- the byte at a place; past the end it counts as 0, and no answer depends on that
 abbrev pub byte : List ℕ → ℕ → ℕ
 byte s at = getD s at 0
 

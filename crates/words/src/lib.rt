@@ -14,6 +14,7 @@ pub enum Order {
     More,
 }
 
+// A byte as a wider number: the cast is proved here once.
 fn wide(byte: u8) -> u64
     ensures { λ r. ⌜ r ≡ byte ⌝ }
 {

@@ -1,10 +1,10 @@
 -- `add_widths` meets its contract: after f turns the first f pairs are right and their sums stand. Assumes nothing.
 use mathlib.Core.Path.{_≡_, sym, _∙_}
 use mathlib.Core.Bool.{false, false≢true}
-use Prim.Native.Nat.{_-_}
+use Prim.Native.Nat.{_-_, _<_}
 use native.Mathlib.Omega.{arith}
 use borrow.Author.Needs.{needs}
-use Rattle.header.proofs.FieldLaws.{Added, added-none, added-more, added-broken, added-small}
+use Rattle.header.proofs.FieldLaws.{Added, added-none, added-more, added-broken, added-byte, added-small}
 use Rattle.header.proofs.fields.add_widths.Statement.{statement}
 use Rattle.header.proofs.fields.add_widths.Tie as tie
 
@@ -40,14 +40,21 @@ returns c =
       λ e. absurd (false≢true e),
     )
 
+-- the width just taken is a byte
+small : (c : tie.After-known-told Inv-loop μ-loop) → c .before .width .given .0 .0 < 256
+small c =
+    let l = c .before .before .before .before .before in
+    let v = l .before .before .args in
+    added-byte (v .t .now) (v .area) (v .keys) (v .n) (l .loop .offsets) (l .loop .sum) (l .loop .f) (l .loop .inv) (search needs) (λ i. omega (arith, l .before .shared-slice-known .given i)) (c .before .width .given .0 .0) (sym (c .before .before .before .width-at .ensures) ∙ c .before .width .given .1)
+
 cast-sum : tie.Need-cast-sum Inv-loop μ-loop
-cast-sum c = search needs
+cast-sum c = omega (arith, small c)
 
 add-sum : tie.Need-add-sum Inv-loop μ-loop
 add-sum c =
     let l = c .before .before .before .before .before in
     let v = l .before .before .args in
-    record { fits = added-small (v .t .now) (v .area) (v .keys) (v .n) (l .loop .offsets) (l .loop .sum) (l .loop .f) (l .loop .inv) (search needs) (λ i. omega (arith, l .before .shared-slice-known .given i)) (search needs) (c .before .width .given .0 .0) (search needs) }
+    record { fits = added-small (v .t .now) (v .area) (v .keys) (v .n) (l .loop .offsets) (l .loop .sum) (l .loop .f) (l .loop .inv) (search needs) (λ i. omega (arith, l .before .shared-slice-known .given i)) (search needs) (c .before .width .given .0 .0) (small c) }
 
 add-f : tie.Need-add-f Inv-loop μ-loop
 add-f c = search needs

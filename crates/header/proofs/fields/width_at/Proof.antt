@@ -4,7 +4,7 @@ use mathlib.Core.Bool.{true, false}
 use Prim.Native.Nat.{_+_}
 use native.Mathlib.Omega.{arith}
 use Rattle.header.specs.Kinds.{kindOf}
-use Rattle.header.specs.Steps.{widthIf}
+use Rattle.header.specs.Steps.{judgedIf}
 use Rattle.words.specs.Numbers.{byte}
 use Rattle.header.proofs.FieldLaws.{width-unknown, width-known}
 use borrow.Author.Needs.{needs}
@@ -20,8 +20,8 @@ add-width c = search needs
 shared-slice-read-width : tie.Need-shared-slice-read-width
 shared-slice-read-width c = search needs
 
-cast-of : tie.Need-cast-of
-cast-of c = omega (arith, c .shared-slice-known3 .given (c .before .before .before .args .at + 1))
+cast-width : tie.Need-cast-width
+cast-width c = omega (arith, c .shared-slice-known3 .given (c .before .before .before .args .at + 1))
 
 of-requires : tie.Need-of-requires
 of-requires c κs = search needs
@@ -41,14 +41,14 @@ is-blob-requires : tie.Need-is-blob-requires
 is-blob-requires c κs = search needs
 
 returns-2 : tie.Need-returns-2
-unfolding widthIf
+unfolding judgedIf
 returns-2 c =
     let k = c .before .before .before .before .before in
     let v = k .before .before .before .before .args in
     sym (width-known (v .keyed) (kindOf (byte (v .t .now) (v .at)) (byte (v .t .now) (v .at + 1))) (c .before .before .before .kind .given .0 .0) (byte (v .t .now) (v .at + 1)) true (sym (k .of .ensures) ∙ c .before .before .before .kind .given .1) (rw (← c .before .is-blob .ensures) (c .if1 .taken)))
 
 returns-3 : tie.Need-returns-3
-unfolding widthIf
+unfolding judgedIf
 returns-3 c =
     let k = c .before .before .before .before .before in
     let v = k .before .before .before .before .args in
@@ -61,7 +61,7 @@ width-at-spec =
     shared-slice-read-code
     add-width
     shared-slice-read-width
-    cast-of
+    cast-width
     of-requires
     enum-known-kind
     enum-told
