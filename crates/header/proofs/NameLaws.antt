@@ -3,43 +3,15 @@ use Prim.Native.Nat.{ℕ, zero, suc, _+_, _-_, _≤_, _<_}
 use mathlib.Core.Path.{_≡_, sym, _∙_}
 use mathlib.Core.Bool.{true, false, _&&_, and-eq-true-iff}
 use mathlib.Core.List.{List}
-use native.Mathlib.Nat.{add-zero, zero-add, sub-zero}
+use native.Mathlib.Nat.{sub-zero}
 use native.Mathlib.Omega.{arith}
 use lib.Dec.{leb, ltb}
-use borrow.Author.Tests.{eq-eqb, ne-eqb, le-leb, lt-leb, lt-ltb, le-ltb, ltb-true}
-use Rattle.words.specs.Numbers.{byte}
+use borrow.Author.Tests.{le-leb, lt-leb, lt-ltb, le-ltb, ltb-true}
 use Rattle.words.proofs.Conjunctions.{and-second, and-third}
-use Rattle.header.specs.Fields.{beforeZero, nameLength, nameFits, namesFit}
+use Rattle.header.specs.Fields.{nameLength, nameFits, namesFit}
 use Rattle.header.specs.Steps.{judgedIf, nextName}
 use Rattle.header.specs.declared.judged.Judged.the-variants.{Good, Bad}
 use Rattle.header.proofs.JudgedLaws.{judged-good, judged-bad}
-
--- ---- the bytes before a zero, after i of them
-
-abbrev pub Passed : List ℕ → ℕ → ℕ → Type 0
-Passed t at i = (i ≤ 26) × (nameLength t at ≡ i + beforeZero t (at + i) (26 - i))
-
-pub passed-none : (t : List ℕ) (at : ℕ) → Passed t at 0
-passed-none t at = (omega arith, sym (rw (zero-add, add-zero)))
-
-module _ (t : List ℕ) (at i : ℕ) (p : Passed t at i) where
-  pub passed-more : i ≤ 25 → (byte t (at + i) ≡ 0 → ⊥) → Passed t at (i + 1)
-  unfolding beforeZero
-  passed-more h k =
-      let e : 26 - i ≡ suc (26 - (i + 1)) = omega arith in
-      let f : at + (i + 1) ≡ suc (at + i) = omega arith in
-      let g : beforeZero t (at + i) (26 - i) ≡ suc (beforeZero t (at + (i + 1)) (26 - (i + 1))) = rw (e, ne-eqb (byte t (at + i)) 0 k, f) in
-      (omega arith, omega (arith, p .1, g))
-
-  pub passed-zero : i ≤ 25 → byte t (at + i) ≡ 0 → nameLength t at ≡ i
-  unfolding beforeZero
-  passed-zero h k =
-      let e : 26 - i ≡ suc (26 - (i + 1)) = omega arith in
-      let g : beforeZero t (at + i) (26 - i) ≡ 0 = rw (e, eq-eqb (byte t (at + i)) 0 k) in
-      omega (arith, p .1, g)
-
-  pub passed-least : i ≤ nameLength t at
-  passed-least = omega (arith, p .1)
 
 -- ---- a name that fits, or not
 

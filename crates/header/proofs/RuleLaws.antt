@@ -4,7 +4,6 @@ use mathlib.Core.Path.{_≡_, refl, ap}
 use mathlib.Core.Bool.{Bool, true, false, cond, not, _&&_, _||_, and-eq-true-iff, false≢true}
 use mathlib.Core.List.{List}
 use mathlib.Core.Logic.{_⊎_, inl, inr}
-use native.Mathlib.Nat.{add-zero, not-suc-le-zero}
 use native.Mathlib.Omega.{arith}
 use lib.Dec.{eqb, leb, ltb}
 use lib.ListN.{length}
@@ -13,9 +12,10 @@ use Rattle.words.specs.Each.{each}
 use Rattle.words.specs.Numbers.{byte}
 use Rattle.words.proofs.Conjunctions.{both, join}
 use Rattle.words.proofs.EachLaws.{each-gives, each-takes}
+use Rattle.words.proofs.ZeroLaws.{before-nonzero, before-zero, before-is}
 use Rattle.header.specs.Kinds.{isBlob}
 use Rattle.header.specs.Stored.{storedOf, blockSize, encryptionAt, areaAt, namesAt}
-use Rattle.header.specs.Fields.{allowed, kindAt, pairRight, widthSum, beforeZero, nameLength, nameFits, namesFit, fieldsRight}
+use Rattle.header.specs.Fields.{allowed, kindAt, pairRight, widthSum, nameLength, nameFits, namesFit, fieldsRight}
 use Rattle.header.specs.Header.{longEnough, isTable, knownVersion, unencrypted, keyedRight, limitsKept, lengthRight, headerAnswer}
 use Rattle.header.specs.Rules.{Limits, Names, none, some, FieldRules, HeaderRules}
 use Rattle.header.specs.declared.stored.Stored.{Stored}
@@ -131,37 +131,6 @@ allowed-takes false (Kind kind) h g = refl
 allowed-takes true (Kind kind) h g = rw (not-blob kind (λ e. g refl (ap Kind e)))
 
 -- ---- 7: names
-
--- the bytes before the first zero are no zeros, and the zero ends them
-before-nonzero : (t : List ℕ) (at m i : ℕ) → i < beforeZero t at m → byte t (at + i) ≡ 0 → ⊥
-unfolding beforeZero
-before-nonzero t at zero i l z = not-suc-le-zero l
-before-nonzero t at (suc m) i l z = go (eqb (byte t at) 0) refl i l z (before-nonzero t (suc at) m)
-  where
-    go : (b : Bool) → eqb (byte t at) 0 ≡ b → (i : ℕ) → i < cond b 0 (suc (beforeZero t (suc at) m)) → byte t (at + i) ≡ 0 → ((j : ℕ) → j < beforeZero t (suc at) m → byte t (suc at + j) ≡ 0 → ⊥) → ⊥
-    go true e i l z ih = not-suc-le-zero l
-    go false e zero l z ih = eqb-false (byte t at) 0 e (rw add-zero at z)
-    go false e (suc j) l z ih = let f : at + suc j ≡ suc at + j = omega arith in ih j (omega arith) (rw f at z)
-
-before-zero : (t : List ℕ) (at m : ℕ) → beforeZero t at m < m → byte t (at + beforeZero t at m) ≡ 0
-unfolding beforeZero
-before-zero t at zero l = absurd (not-suc-le-zero l)
-before-zero t at (suc m) l = go (eqb (byte t at) 0) refl l (before-zero t (suc at) m)
-  where
-    go : (b : Bool) → eqb (byte t at) 0 ≡ b → cond b 0 (suc (beforeZero t (suc at) m)) < suc m → (beforeZero t (suc at) m < m → byte t (suc at + beforeZero t (suc at) m) ≡ 0) → byte t (at + cond b 0 (suc (beforeZero t (suc at) m))) ≡ 0
-    go true e l ih = rw add-zero (eqb-true (byte t at) 0 e)
-    go false e l ih = let f : at + suc (beforeZero t (suc at) m) ≡ suc at + beforeZero t (suc at) m = omega arith in rw f (ih (omega arith))
-
--- a name of l bytes has that length
-before-is : (t : List ℕ) (at m l : ℕ) → l < m → ((i : ℕ) → i < l → byte t (at + i) ≡ 0 → ⊥) → byte t (at + l) ≡ 0 → beforeZero t at m ≡ l
-unfolding beforeZero
-before-is t at zero l k h z = absurd (not-suc-le-zero k)
-before-is t at (suc m) zero k h z = rw (eq-eqb (byte t at) 0 (rw add-zero at z))
-before-is t at (suc m) (suc l) k h z =
-    let f : at + suc l ≡ suc at + l = omega arith in
-    let n : byte t at ≡ 0 → ⊥ = λ e. h 0 (omega arith) (rw add-zero e) in
-    rw (ne-eqb (byte t at) 0 n)
-    (ap suc (before-is t (suc at) m l (omega arith) (λ i j y. h (suc i) (omega arith) (let g : at + suc i ≡ suc at + i = omega arith in rw g y)) (rw f at z)))
 
 names-give : (t : List ℕ) (end n at : ℕ) → namesFit t end n at ≡ true → Names t end n at
 unfolding namesFit nameFits

@@ -1,11 +1,12 @@
 -- Field rules (refusal 7): the pairs of code and width, their sum, and the names. Fields count from 0 here. Definitions only.
 use Prim.Native.Nat.{ℕ, zero, suc, _+_, _*_}
-use mathlib.Core.Bool.{Bool, true, false, cond, not, _&&_}
+use mathlib.Core.Bool.{Bool, true, false, not, _&&_}
 use mathlib.Core.List.{List}
 use lib.Dec.{eqb, leb, ltb}
 use lib.ListN.{replicate, set}
 use Rattle.words.specs.Each.{each}
 use Rattle.words.specs.Numbers.{byte}
+use Rattle.words.specs.Zeros.{beforeZero}
 use Rattle.header.specs.Kinds.{kindOf, isBlob}
 use Rattle.header.specs.Stored.{areaAt, namesAt}
 use Rattle.header.specs.declared.stored.Stored.{Stored}
@@ -46,11 +47,6 @@ offsetsOf t area (suc n) = set (offsetsOf t area n) (suc n) (widthSum t area (su
 -- the longest name, without its ending zero
 abbrev pub longestName : ℕ
 longestName = 25
-
--- how many of the next m bytes stand before the first zero; m where there is no zero
-unfoldable pub beforeZero : List ℕ → ℕ → ℕ → ℕ
-beforeZero t at zero = 0
-beforeZero t at (suc m) = cond (eqb (byte t at) 0) 0 (suc (beforeZero t (suc at) m))
 
 -- the length of the name at a place; one more than the longest where it is longer than that
 abbrev pub nameLength : List ℕ → ℕ → ℕ

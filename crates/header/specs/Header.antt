@@ -4,8 +4,7 @@ use mathlib.Core.Bool.{Bool, cond, not, _&&_, _||_}
 use mathlib.Core.List.{List}
 use lib.Dec.{eqb, leb}
 use lib.ListN.{length, replicate}
-use Rattle.words.specs.Each.{each}
-use Rattle.words.specs.Numbers.{byte}
+use Rattle.words.specs.Zeros.{allZero}
 use Rattle.header.specs.Refusals.{tooShort, notATable, unknownVersion, encrypted, headerLimit, wrongLength, fieldRule, firstBroken}
 use Rattle.header.specs.Stored.{storedOf, blockSize, encryptionAt, areaAt, namesAt}
 use Rattle.header.specs.Fields.{widthAt, kindAt, widthSum, offsetsOf, fieldsRight}
@@ -65,7 +64,7 @@ knownVersion s = leb leastVersion (s .version) && leb (s .version) mostVersion
 
 -- 4: the four encryption bytes are zero
 unfoldable pub unencrypted : List ℕ → ℕ → Bool
-unencrypted t at = each (λ (i : ℕ). eqb (byte t (at + i)) 0) 4
+unencrypted t at = allZero t at 4
 
 -- 5: byte 04 is 0 exactly when there are key fields, and then the sort byte is 0, plain byte order
 unfoldable pub keyedRight : Stored → Bool

@@ -54,7 +54,7 @@ pub fn is_unencrypted(t: &[u8], at: usize) -> bool
     requires { ⌜ at + 4 ≤ length (now t) ⌝ }
     ensures { λ r. ⌜ r ≡ unencrypted (now (t .entry)) at ⌝ }
 {
-    (t[at] == 0) & (t[at + 1] == 0) & (t[at + 2] == 0) & (t[at + 3] == 0)
+    words::all_zero(t, at, 4)
 }
 
 // Rule 5, of the key fields.

@@ -1,3 +1,5 @@
 pub mod Each
 pub mod Numbers
 pub mod Order
+pub mod Signed
+pub mod Zeros

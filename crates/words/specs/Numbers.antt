@@ -1,6 +1,6 @@
 -- Numbers of w bytes at a place of a file. Offsets and widths count bytes. Definitions only.
-use Prim.Native.Nat.{ℕ, zero, suc, _+_, _*_, _^_, _<_}
-use mathlib.Core.List.{List}
+use Prim.Native.Nat.{ℕ, zero, suc, _+_, _*_, _/_, _%_, _^_, _<_}
+use mathlib.Core.List.{List, [], _∷_, _++_}
 use lib.ListN.{getD}
 
 -- the byte at a place; past the end it counts as 0, and no answer depends on that
@@ -28,3 +28,8 @@ long s at = little s at 4
 unfoldable pub big : List ℕ → ℕ → ℕ → ℕ
 big s at zero = 0
 big s at (suc w) = big s at w * 256 + byte s (at + w)
+
+-- the w low bytes of a number, high byte first
+unfoldable pub digits : ℕ → ℕ → List ℕ
+digits zero n = []
+digits (suc w) n = digits w (n / 256) ++ (n % 256 ∷ [])

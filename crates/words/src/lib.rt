@@ -1,10 +1,15 @@
 // Numbers and byte order as the files have them: words in headers and block heads are little-endian,
 // numbers in cells and index entries big-endian, keys compare byte by byte.
 // The functions are helpers of the crates above: each `requires` says where its bytes stand.
+mod zeros;
+
+pub use zeros::all_zero;
+pub use zeros::before_zero;
 ghost use mathlib.Core.Path.{_≡_};
+ghost use mathlib.Core.List.{_++_};
 ghost use Prim.Native.Nat.{_+_, _≤_};
-ghost use lib.ListN.{length};
-ghost use Rattle.words.specs.Numbers.{big, long, word};
+ghost use lib.ListN.{drop, length};
+ghost use Rattle.words.specs.Numbers.{big, digits, long, word};
 ghost use Rattle.words.specs.Order.{order, range};
 
 // How two ranges of bytes compare.
@@ -53,6 +58,20 @@ pub fn number(s: &[u8], at: usize, width: usize) -> u64
         i += 1;
     }
     n
+}
+
+// Writes the low `width` bytes of `n`, high byte first, into the first bytes of a buffer.
+pub fn put_number(buffer: &mut [u8], width: usize, n: u64)
+    requires { ⌜ width ≤ length (now buffer) ⌝ }
+    ensures { λ _. ⌜ now (buffer .exit) ≡ digits width n ++ drop width (now (buffer .entry)) ⌝ }
+{
+    let mut m = n;
+    let mut i = width;
+    while 0 < i {
+        i -= 1;
+        buffer[i] = (m % 256) as u8;
+        m = m / 256;
+    }
 }
 
 // How the `n` bytes of `a` from `p` compare with the `n` bytes of `b` from `q`.

@@ -1,0 +1,66 @@
+-- The top bit complemented and read as a sign, each law once over what that bit counts for. Assumes nothing.
+use Prim.Native.Nat.{ℕ, zero, suc, _+_, _-_, _≤_, _<_}
+use mathlib.Core.Path.{_≡_, refl, sym, ap, _∙_}
+use mathlib.Core.Bool.{Bool, true, false}
+use mathlib.Core.Logic.{_⊎_, inl, inr, ⊎-elim}
+use native.Mathlib.Omega.{arith}
+use lib.Dec.{ltb}
+use lib.IntN.{pos, negsuc, _-ℤ_}
+use borrow.Author.Tests.{lt-ltb, le-ltb, le-leb, lt-leb, ltb-true, ltb-false}
+use Rattle.words.specs.Signed.{complemented, signed}
+
+pub lt-or-ge : (n m : ℕ) → (n < m) ⊎ (m ≤ n)
+lt-or-ge n m = go (ltb n m) refl
+  where
+    go : (t : Bool) → ltb n m ≡ t → (n < m) ⊎ (m ≤ n)
+    go true e = inl (ltb-true n m e)
+    go false e = inr (ltb-false n m e)
+
+module _ (top n : ℕ) where
+  pub complemented-from : top ≤ n → complemented top n ≡ n - top
+  unfolding complemented
+  complemented-from h = rw (le-leb top n h)
+
+  pub complemented-below : n < top → complemented top n ≡ n + top
+  unfolding complemented
+  complemented-below h = rw (lt-leb top n h)
+
+  pub complemented-lt : n < top + top → complemented top n < top + top
+  complemented-lt h =
+      ⊎-elim
+      (λ (l : n < top). rw (complemented-below l) (omega arith))
+      (λ (l : top ≤ n). rw (complemented-from l) (omega arith))
+      (lt-or-ge n top)
+
+  pub signed-below : n < top → signed top n ≡ pos n
+  unfolding signed
+  signed-below h = rw (lt-ltb n top h)
+
+  pub signed-from : top ≤ n → signed top n ≡ negsuc (top + top - suc n)
+  unfolding signed
+  signed-from h = rw (le-ltb n top h)
+
+-- complemented twice is as it was
+pub complemented-twice : (top n : ℕ) → n < top + top → complemented top (complemented top n) ≡ n
+complemented-twice top n h =
+    ⊎-elim
+    (λ (l : n < top). rw (complemented-below top n l, complemented-from top (n + top) (omega arith)) (omega arith))
+    (λ (l : top ≤ n). rw (complemented-from top n l, complemented-below top (n - top) (omega arith)) (omega arith))
+    (lt-or-ge n top)
+
+-- ---- the top bit complemented, then signed: the number less that bit
+
+pub less-below : (n top : ℕ) → n < top → pos n -ℤ pos top ≡ negsuc (top - suc n)
+less-below n zero h = absurd (omega arith)
+less-below n (suc top) h = rw (lt-ltb n (suc top) h)
+
+pub less-from : (n top : ℕ) → top ≤ n → pos n -ℤ pos top ≡ pos (n - top)
+less-from n zero h = ap pos (omega arith)
+less-from n (suc top) h = rw (le-ltb n (suc top) h)
+
+pub signed-complemented : (top n : ℕ) → n < top + top → signed top (complemented top n) ≡ pos n -ℤ pos top
+signed-complemented top n h =
+    ⊎-elim
+    (λ (l : n < top). rw (complemented-below top n l, signed-from top (n + top) (omega arith)) (ap negsuc (omega arith) ∙ sym (less-below n top l)))
+    (λ (l : top ≤ n). rw (complemented-from top n l, signed-below top (n - top) (omega arith)) (sym (less-from n top l)))
+    (lt-or-ge n top)

@@ -1,0 +1,86 @@
+-- Zero bytes: the bytes before the first zero, and a number whose bytes are all zero. Assumes nothing.
+use Prim.Native.Nat.{ℕ, zero, suc, _+_, _*_, _≤_, _<_}
+use mathlib.Core.Path.{_≡_, refl, sym, ap, _∙_}
+use mathlib.Core.Bool.{Bool, true, false, cond, _&&_}
+use mathlib.Core.List.{List}
+use mathlib.Core.Logic.{⊎-elim}
+use native.Mathlib.Nat.{add-zero, not-suc-le-zero, eq-or-lt-of-le, le-antisymm}
+use native.Mathlib.Omega.{arith}
+use lib.Dec.{eqb, ltb}
+use borrow.Author.Tests.{ne-eqb, eqb-true, eqb-false, ltb-true, ltb-false}
+use Rattle.words.specs.Each.{each}
+use Rattle.words.specs.Numbers.{byte, big}
+use Rattle.words.specs.Zeros.{allZero, beforeZero}
+
+-- the bytes before the first zero are no zeros, and the zero ends them
+pub before-nonzero : (t : List ℕ) (at m i : ℕ) → i < beforeZero t at m → byte t (at + i) ≡ 0 → ⊥
+unfolding beforeZero
+before-nonzero t at zero i l z = not-suc-le-zero l
+before-nonzero t at (suc m) i l z = go (eqb (byte t at) 0) refl i l z (before-nonzero t (suc at) m)
+  where
+    go : (b : Bool) → eqb (byte t at) 0 ≡ b → (i : ℕ) → i < cond b 0 (suc (beforeZero t (suc at) m)) → byte t (at + i) ≡ 0 → ((j : ℕ) → j < beforeZero t (suc at) m → byte t (suc at + j) ≡ 0 → ⊥) → ⊥
+    go true e i l z ih = not-suc-le-zero l
+    go false e zero l z ih = eqb-false (byte t at) 0 e (rw add-zero at z)
+    go false e (suc j) l z ih = let f : at + suc j ≡ suc at + j = omega arith in ih j (omega arith) (rw f at z)
+
+pub before-zero : (t : List ℕ) (at m : ℕ) → beforeZero t at m < m → byte t (at + beforeZero t at m) ≡ 0
+unfolding beforeZero
+before-zero t at zero l = absurd (not-suc-le-zero l)
+before-zero t at (suc m) l = go (eqb (byte t at) 0) refl l (before-zero t (suc at) m)
+  where
+    go : (b : Bool) → eqb (byte t at) 0 ≡ b → cond b 0 (suc (beforeZero t (suc at) m)) < suc m → (beforeZero t (suc at) m < m → byte t (suc at + beforeZero t (suc at) m) ≡ 0) → byte t (at + cond b 0 (suc (beforeZero t (suc at) m))) ≡ 0
+    go true e l ih = rw add-zero (eqb-true (byte t at) 0 e)
+    go false e l ih = let f : at + suc (beforeZero t (suc at) m) ≡ suc at + beforeZero t (suc at) m = omega arith in rw f (ih (omega arith))
+
+pub before-most : (t : List ℕ) (at m : ℕ) → beforeZero t at m ≤ m
+unfolding beforeZero
+before-most t at zero = omega arith
+before-most t at (suc m) = go (eqb (byte t at) 0) (before-most t (suc at) m)
+  where
+    go : (b : Bool) → beforeZero t (suc at) m ≤ m → cond b 0 (suc (beforeZero t (suc at) m)) ≤ suc m
+    go true ih = omega arith
+    go false ih = omega arith
+
+-- ---- a pass over bytes that are no zeros
+
+-- the first i bytes at a place are no zeros
+abbrev pub Nonzero : List ℕ → ℕ → ℕ → Type 0
+Nonzero t at i = (j : ℕ) → j < i → byte t (at + j) ≡ 0 → ⊥
+
+pub nonzero-none : (t : List ℕ) (at : ℕ) → Nonzero t at 0
+nonzero-none t at j l z = not-suc-le-zero l
+
+pub nonzero-more : (t : List ℕ) (at i : ℕ) → Nonzero t at i → (byte t (at + i) ≡ 0 → ⊥) → Nonzero t at (i + 1)
+nonzero-more t at i h k j l z =
+    ⊎-elim (λ (e : j ≡ i). k (ap (λ (x : ℕ). byte t (at + x)) (sym e) ∙ z)) (λ m. h j m z) (eq-or-lt-of-le {n = j} {m = i} (omega arith))
+
+-- bytes that are no zeros are no more than stand before the first zero
+pub before-least : (t : List ℕ) (at m i : ℕ) → i ≤ m → Nonzero t at i → i ≤ beforeZero t at m
+before-least t at m i l h = go (ltb (beforeZero t at m) i) refl
+  where
+    go : (b : Bool) → ltb (beforeZero t at m) i ≡ b → i ≤ beforeZero t at m
+    go true e = let k = ltb-true (beforeZero t at m) i e in absurd (h (beforeZero t at m) k (before-zero t at m (omega arith)))
+    go false e = ltb-false (beforeZero t at m) i e
+
+-- as many bytes that are no zeros, and then a zero
+pub before-is : (t : List ℕ) (at m i : ℕ) → i < m → Nonzero t at i → byte t (at + i) ≡ 0 → beforeZero t at m ≡ i
+before-is t at m i l h z = go (ltb i (beforeZero t at m)) refl
+  where
+    go : (b : Bool) → ltb i (beforeZero t at m) ≡ b → beforeZero t at m ≡ i
+    go true e = absurd (before-nonzero t at m i (ltb-true i (beforeZero t at m) e) z)
+    go false e = le-antisymm (ltb-false i (beforeZero t at m) e) (before-least t at m i (omega arith) h)
+
+-- no zero among them
+pub before-whole : (t : List ℕ) (at m : ℕ) → Nonzero t at m → beforeZero t at m ≡ m
+before-whole t at m h = le-antisymm (before-most t at m) (before-least t at m m (omega arith) h)
+
+-- ---- a number whose bytes are all zero
+
+pub zero-number : (s : List ℕ) (at w : ℕ) → allZero s at w ≡ eqb (big s at w) 0
+unfolding each big
+zero-number s at zero = refl
+zero-number s at (suc w) = ap (λ (b : Bool). b && eqb (byte s (at + w)) 0) (zero-number s at w) ∙ go (big s at w) (byte s (at + w))
+  where
+    go : (n b : ℕ) → (eqb n 0 && eqb b 0) ≡ eqb (n * 256 + b) 0
+    go zero b = let e : 0 * 256 + b ≡ b = omega arith in rw e
+    go (suc n) b = rw (ne-eqb (suc n) 0 (omega arith)) (sym (ne-eqb (suc n * 256 + b) 0 (omega arith)))
