@@ -1,0 +1,70 @@
+-- The count rule: what each answer says, and that the records counted are inside the block. Assumes nothing.
+use Prim.Native.Nat.{ℕ, suc, _+_, _-_, _*_, _/_, _%_, _≤_, _<_}
+use mathlib.Core.Path.{_≡_, refl}
+use mathlib.Core.Bool.{Bool, true, false, cond, _&&_, and-eq-true-iff}
+use mathlib.Core.List.{List}
+use native.Mathlib.Nat.{mul-le-mul-right, mod-add-div', add-mul}
+use native.Mathlib.Omega.{arith}
+use lib.Dec.{eqb, leb}
+use lib.IntN.{ℤ, pos, negsuc}
+use borrow.Author.Tests.{eq-eqb, ne-eqb, le-leb, lt-leb, eqb-true, leb-true}
+use Rattle.words.proofs.SignedLaws.{signed-below, signed-from}
+use Rattle.words.specs.Numbers.{word}
+use Rattle.words.specs.Signed.{signed}
+use Rattle.blocks.specs.Shape.{blockAt, recordAt, Sound}
+use Rattle.blocks.specs.Counts.{countOf, countIn}
+use Rattle.blocks.specs.declared.Shape.{Shape}
+use Rattle.blocks.specs.declared.count.Count.the-variants.{Records, Bad}
+
+-- ---- one law for each answer, of a word read as signed
+
+module _ (block size last : ℕ) where
+  pub count-none : 32768 ≤ last → last < 65536 → 65536 - last ≡ size → Records 0 ≡ countOf block size (signed 32768 last)
+  unfolding countOf
+  count-none h l e = rw (signed-from 32768 last h, eq-eqb (suc (65536 - suc last)) size (omega arith))
+
+  pub count-negative : 32768 ≤ last → last < 65536 → (65536 - last ≡ size → ⊥) → Bad ≡ countOf block size (signed 32768 last)
+  unfolding countOf
+  count-negative h l e = rw (signed-from 32768 last h, ne-eqb (suc (65536 - suc last)) size (λ f. e (omega arith)))
+
+  pub count-between : last < 32768 → (last % size ≡ 0 → ⊥) → Bad ≡ countOf block size (signed 32768 last)
+  unfolding countOf
+  count-between h e = rw (signed-below 32768 last h, ne-eqb (last % size) 0 e)
+
+  pub count-beyond : last < 32768 → last % size ≡ 0 → block - 6 < last + size → Bad ≡ countOf block size (signed 32768 last)
+  unfolding countOf
+  count-beyond h e l = rw (signed-below 32768 last h, eq-eqb (last % size) 0 e, lt-leb (last + size) (block - 6) l)
+
+  pub count-some : last < 32768 → last % size ≡ 0 → last + size ≤ block - 6 → Records (last / size + 1) ≡ countOf block size (signed 32768 last)
+  unfolding countOf
+  count-some h e l = rw (signed-below 32768 last h, eq-eqb (last % size) 0 e, le-leb (last + size) (block - 6) l)
+
+-- ---- the records counted
+
+-- the records of a block, with its head, are no more than the block
+pub count-most : (block size : ℕ) (z : ℤ) (n : ℕ) → 6 ≤ block → countOf block size z ≡ Records n → 6 + n * size ≤ block
+unfolding countOf
+count-most block size (negsuc d) n h e = go (eqb (suc d) size) e
+  where
+    go : (b : Bool) → cond b (Records 0) Bad ≡ Records n → 6 + n * size ≤ block
+    go true f = let z : 0 ≡ n = cc in rw (← z) (omega arith)
+    go false f = let z : _≡_ {A = ℕ} 0 1 = cc in absurd (omega arith)
+count-most block size (pos m) n h e = go (eqb (m % size) 0 && leb (m + size) (block - 6)) refl e
+  where
+    go : (b : Bool) → (eqb (m % size) 0 && leb (m + size) (block - 6)) ≡ b → cond b (Records (m / size + 1)) Bad ≡ Records n → 6 + n * size ≤ block
+    go true f k =
+        let p = and-eq-true-iff (eqb (m % size) 0) (leb (m + size) (block - 6)) .0 f in
+        let z : m / size + 1 ≡ n = cc in
+        let r : m % size ≡ 0 = eqb-true (m % size) 0 (p .0) in
+        let d : m % size + m / size * size ≡ m = mod-add-div' m size in
+        let w : (m / size + 1) * size ≡ m / size * size + 1 * size = add-mul (m / size) 1 size in
+        rw (← z) (omega (arith, leb-true (m + size) (block - 6) (p .1), d, w, r))
+    go false f k = let z : _≡_ {A = ℕ} 0 1 = cc in absurd (omega arith)
+
+-- ---- a record that is counted is inside its block
+module _ (t : List ℕ) (g : Shape) (s : Sound t g) (b n : ℕ) (e : countIn t g b ≡ Records n) where
+  pub record-inside : (i : ℕ) → i < n → recordAt g b i + g .size ≤ blockAt g b + g .block
+  unfolding countIn
+  record-inside i l =
+      let m : 6 + n * g .size ≤ g .block = count-most (g .block) (g .size) (signed 32768 (word t (blockAt g b + 4))) n (omega (arith, s .size-most)) e in
+      omega (arith, m, mul-le-mul-right (g .size) l)

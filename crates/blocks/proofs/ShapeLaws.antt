@@ -1,0 +1,37 @@
+-- Blocks and records stand inside the file. Assumes nothing.
+use Prim.Native.Nat.{ℕ, zero, suc, _+_, _-_, _*_, _≤_, _<_}
+use mathlib.Core.Path.{_≡_}
+use mathlib.Core.Bool.{true, and-eq-true-iff}
+use mathlib.Core.List.{List}
+use native.Mathlib.Nat.{mul-le-mul-right, mul-le-mul, not-suc-le-zero}
+use native.Mathlib.Numerals.{sub-one}
+use native.Mathlib.Omega.{arith}
+use lib.Dec.{leb}
+use lib.ListN.{length}
+use borrow.Author.Tests.{leb-true}
+use Rattle.header.specs.Rules.{Accepted}
+use Rattle.header.specs.declared.Header.{Header}
+use Rattle.blocks.specs.Shape.{shapeOf, hasBlock, blockAt, Sound}
+use Rattle.blocks.specs.declared.Shape.{Shape}
+
+-- an accepted header's shape
+pub sound : (t : List ℕ) (h : Header) → Accepted t h → Sound t (shapeOf h)
+unfolding shapeOf
+sound t h a = record { whole = a .whole; size-least = a .size-least; size-most = a .size-most }
+
+pub has-block : (g : Shape) (b : ℕ) → hasBlock g b ≡ true → (1 ≤ b) × (b ≤ g .blocks)
+unfolding hasBlock
+has-block g b e = let p = and-eq-true-iff (leb 1 b) (leb b (g .blocks)) .0 e in (leb-true 1 b (p .0), leb-true b (g .blocks) (p .1))
+
+-- the blocks before block b, and block b, are at most all of them
+pub blocks-fit : (block b n : ℕ) → 1 ≤ b → b ≤ n → (b - 1) * block + block ≤ n * block
+blocks-fit block zero n low high = absurd (not-suc-le-zero low)
+blocks-fit block (suc a) n low high = rw sub-one (omega (arith, mul-le-mul-right block high))
+
+-- a product of two words fits 32 bits
+pub words-product : (a b : ℕ) → a < 65536 → b < 65536 → a * b ≤ 4294836225
+words-product a b h k = mul-le-mul {n₁ = a} {m₁ = b} {n₂ = 65535} {m₂ = 65535} (omega arith) (omega arith)
+
+module _ (t : List ℕ) (g : Shape) (s : Sound t g) (b : ℕ) (low : 1 ≤ b) (high : b ≤ g .blocks) where
+  pub block-inside : blockAt g b + g .block ≤ length t
+  block-inside = omega (arith, s .whole, blocks-fit (g .block) b (g .blocks) low high)

@@ -1,0 +1,29 @@
+-- `record_at` meets its contract. Assumes nothing.
+use borrow.Author.Needs.{needs}
+use native.Mathlib.Omega.{arith}
+use Prim.Native.Nat.{_-_}
+use Rattle.blocks.proofs.ShapeLaws.{words-product}
+use Rattle.blocks.proofs.record_at.Statement.{statement}
+use Rattle.blocks.proofs.record_at.Tie as tie
+
+block-at-requires : tie.Need-block-at-requires
+block-at-requires c κs = search needs
+
+add-result : tie.Need-add-result
+add-result c = let v = c .before .args in omega (arith, c .block-at .ensures, words-product (v .b - 1) (v .g .block) (search needs) (search needs))
+
+cast-result : tie.Need-cast-result
+cast-result c = search needs
+
+mul-result : tie.Need-mul-result
+mul-result c = let v = c .before .before .args in omega (arith, words-product (v .i) (v .g .size) (search needs) (search needs))
+
+add-result-2 : tie.Need-add-result-2
+add-result-2 c = let v = c .before .before .args in omega (arith, c .before .block-at .ensures, words-product (v .i) (v .g .size) (search needs) (search needs), words-product (v .b - 1) (v .g .block) (search needs) (search needs))
+
+returns : tie.Need-returns
+returns c = search needs
+
+pub record-at-spec : {M : Type 1} → statement M
+record-at-spec =
+    tie.close (tie.spec block-at-requires add-result cast-result mul-result add-result-2 returns)

@@ -1,0 +1,32 @@
+-- A file of blocks, data table or index: where its blocks and records stand. Blocks count from 1, places from 0. Definitions only.
+use Prim.Native.Nat.{ℕ, _+_, _-_, _*_, _≤_}
+use mathlib.Core.Path.{_≡_}
+use mathlib.Core.Bool.{Bool, _&&_}
+use mathlib.Core.List.{List}
+use lib.Dec.{leb}
+use lib.ListN.{length}
+use Rattle.header.specs.Header.{blockHead}
+use Rattle.header.specs.declared.Header.{Header}
+use Rattle.blocks.specs.declared.Shape.{Shape}
+
+-- the shape of a table, by its header
+unfoldable pub shapeOf : Header → Shape
+shapeOf h = record { header = h .header; block = h .block; blocks = h .blocks; size = h .size }
+
+-- whether block b is in the file
+unfoldable pub hasBlock : Shape → ℕ → Bool
+hasBlock g b = leb 1 b && leb b (g .blocks)
+
+-- where block b begins
+abbrev pub blockAt : Shape → ℕ → ℕ
+blockAt g b = g .header + (b - 1) * g .block
+
+-- where the record at place i of block b begins: records follow the block's head
+abbrev pub recordAt : Shape → ℕ → ℕ → ℕ
+recordAt g b i = blockAt g b + blockHead + i * g .size
+
+-- what the rules for lengths and sizes give: the blocks fill the file behind its header, and a block has room for a record
+pub record Sound (t : List ℕ) (g : Shape) : Type 0 where
+  pub whole : length t ≡ g .header + g .blocks * g .block
+  pub size-least : 1 ≤ g .size
+  pub size-most : g .size + blockHead ≤ g .block

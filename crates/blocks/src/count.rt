@@ -1,0 +1,54 @@
+// The count rule: how many records a block holds, by the third word of its head.
+ghost use mathlib.Core.Path.{_≡_};
+ghost use Prim.Native.Nat.{_≤_};
+ghost use Rattle.words.specs.Signed.{half, signed};
+ghost use Rattle.header.specs.Header.{blockHead};
+ghost use Rattle.blocks.specs.Shape.{Sound};
+ghost use Rattle.blocks.specs.Counts.{countIn, countOf};
+use crate::BLOCK_HEAD;
+use crate::Shape;
+use crate::block_at;
+
+// A word from here on is a signed number below 0, and so much less than 65,536.
+const LEAST_NEGATIVE: u16 = 32768;
+
+const WORD_VALUES: u32 = 65536;
+
+// Where the offset of the last record stands in a block's head.
+const LAST_RECORD: usize = 4;
+
+// How many records a block holds, or that its number breaks the rule.
+pub enum Count {
+    Records(u16),
+    Bad,
+}
+
+// The count by the offset of the last record, for a record size that a block has room for.
+pub fn count_of(last: u16, size: u16, block: u16) -> Count
+    requires { ⌜ (1 ≤ size) × (blockHead ≤ block) ⌝ }
+    ensures { λ r. ⌜ r ≡ countOf block size (signed (half 2) last) ⌝ }
+{
+    if LEAST_NEGATIVE <= last {
+        if WORD_VALUES - last as u32 == size as u32 {
+            return Count::Records(0);
+        }
+        return Count::Bad;
+    }
+    if last % size != 0 {
+        return Count::Bad;
+    }
+    let room = block as usize - BLOCK_HEAD;
+    if room < last as usize + size as usize {
+        return Count::Bad;
+    }
+    Count::Records(last / size + 1)
+}
+
+// The count of block `b` of a file.
+pub fn count_in(t: &[u8], g: Shape, b: usize) -> Count
+    requires { ⌜ (1 ≤ b) × (b ≤ g .blocks) × Sound (now t) g ⌝ }
+    ensures { λ r. ⌜ r ≡ countIn (now (t .entry)) g b ⌝ }
+{
+    let last = words::word(t, block_at(g, b) + LAST_RECORD);
+    count_of(last, g.size, g.block)
+}
