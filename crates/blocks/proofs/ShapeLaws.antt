@@ -1,6 +1,6 @@
 -- Blocks and records stand inside the file. Assumes nothing.
 use Prim.Native.Nat.{ℕ, zero, suc, _+_, _-_, _*_, _≤_, _<_}
-use mathlib.Core.Path.{_≡_}
+use mathlib.Core.Path.{_≡_, refl}
 use mathlib.Core.Bool.{true, and-eq-true-iff}
 use mathlib.Core.List.{List}
 use native.Mathlib.Nat.{mul-le-mul-right, mul-le-mul, not-suc-le-zero}
@@ -18,6 +18,11 @@ use Rattle.blocks.specs.declared.Shape.{Shape}
 pub sound : (t : List ℕ) (h : Header) → Accepted t h → Sound t (shapeOf h)
 unfolding shapeOf
 sound t h a = record { whole = a .whole; size-least = a .size-least; size-most = a .size-most }
+
+-- a table's records have the header's record size
+pub shape-size : (h : Header) → shapeOf h .size ≡ h .size
+unfolding shapeOf
+shape-size h = refl
 
 pub has-block : (g : Shape) (b : ℕ) → hasBlock g b ≡ true → (1 ≤ b) × (b ≤ g .blocks)
 unfolding hasBlock

@@ -74,6 +74,20 @@ before-is t at m i l h z = go (ltb i (beforeZero t at m)) refl
 pub before-whole : (t : List ℕ) (at m : ℕ) → Nonzero t at m → beforeZero t at m ≡ m
 before-whole t at m h = le-antisymm (before-most t at m) (before-least t at m m (omega arith) h)
 
+-- bytes that are the same have as many before the first zero
+pub before-same : (s t : List ℕ) (at to m : ℕ) → ((i : ℕ) → i < m → byte s (at + i) ≡ byte t (to + i)) → beforeZero s at m ≡ beforeZero t to m
+unfolding beforeZero
+before-same s t at to zero h = refl
+before-same s t at to (suc m) h =
+    let e : byte s at ≡ byte t to = rw (← add-zero at, ← add-zero to) (h 0 (omega arith)) in
+    let f : beforeZero s (suc at) m ≡ beforeZero t (suc to) m =
+    before-same s t (suc at) (suc to) m
+    (λ i l.
+    let p : suc at + i ≡ at + suc i = omega arith in
+    let q : suc to + i ≡ to + suc i = omega arith in
+    rw (p, q) (h (suc i) (omega arith))) in
+    rw (e, f)
+
 -- ---- a number whose bytes are all zero
 
 pub zero-number : (s : List ℕ) (at w : ℕ) → allZero s at w ≡ eqb (big s at w) 0

@@ -1,0 +1,156 @@
+-- A cell that reads as a value stands inside the table, and its text is a part of it. Assumes nothing.
+use mathlib.Core.Path.{_≡_, refl, subst}
+use mathlib.Core.Bool.{Bool, true, false, cond, not, _&&_}
+use mathlib.Core.List.{List}
+use Prim.Native.Nat.{ℕ, _+_, _-_, _*_, _≤_, _<_}
+use native.Mathlib.Omega.{arith}
+use lib.Dec.{eqb, ltb}
+use lib.ListN.{length}
+use borrow.Author.Tests.{eqb-true, ltb-true, le-leb}
+use lib.IntN.{ℤ, pos, negsuc}
+use lib.Ieee.Scale.{finite}
+use Rattle.words.specs.Numbers.{byte, big}
+use Rattle.words.specs.Order.{range}
+use Rattle.words.specs.Zeros.{allZero, beforeZero}
+use Rattle.words.proofs.ZeroLaws.{before-most}
+use Rattle.header.specs.Kinds.{kindOf, isBlob, Permitted}
+use Rattle.header.specs.Header.{headerOf, fieldOf}
+use Rattle.header.specs.Rules.{Accepted}
+use Rattle.header.specs.declared.kind.FieldKind.{FieldKind}
+use Rattle.header.specs.declared.kind.FieldKind.the-variants as Kin
+use Rattle.header.specs.declared.kind.StoredKind.the-variants.{Kind}
+use Rattle.header.specs.declared.field.Field.{Field}
+use Rattle.header.specs.declared.field.Field.the-variants as Fie
+use Rattle.header.proofs.AcceptedLaws.{accepted, field-bounds}
+use Rattle.blocks.specs.Shape.{shapeOf, hasBlock, recordAt}
+use Rattle.blocks.specs.Counts.{countIn}
+use Rattle.blocks.specs.declared.count.Count.{Count}
+use Rattle.blocks.specs.declared.count.Count.the-variants.{Records, Bad}
+use Rattle.blocks.proofs.ShapeLaws.{sound, shape-size, has-block, block-inside}
+use Rattle.blocks.proofs.CountLaws.{record-inside}
+use Rattle.cell.specs.Values.{textOf, answerOf, contentOf}
+use Rattle.cell.specs.Reading.{signedAt, doubleAt, textWith, dateCell, numberCell, logicalCell, isDate, valueAt, cellAt, placeCell, fieldCell, blockCell, cellOf}
+use Rattle.cell.specs.Steps.{valuePart, partOf}
+use Rattle.cell.specs.declared.value.Value.{Value}
+use Rattle.cell.specs.declared.value.Value.the-variants as Val
+use Rattle.cell.specs.declared.value.Cell.{Cell}
+use Rattle.cell.specs.declared.value.Cell.the-variants.{Is, Refused}
+
+-- a refusal is no value
+pub no-value : {X : Type 0} (n : ℕ) (v : Value) → Refused n ≡ Is v → X
+no-value n v e = let z : _≡_ {A = ℕ} 0 1 = cc in absurd (omega arith)
+
+-- where the cell at a block, place and field stands: the kind of its stored pair, its width and its place in the table
+pub record Stands (t : List ℕ) (b p f : ℕ) (v : Value) : Type 0 where
+  pub kind : FieldKind
+  pub width : ℕ
+  pub at : ℕ
+  pub stored : kindOf (byte t (headerOf t .area + 2 * (f - 1))) width ≡ Kind kind
+  pub permitted : Permitted kind width
+  pub inside : at + width ≤ length t
+  pub means : cellAt kind t at width ≡ Is v
+
+module _ (t : List ℕ) (b p f : ℕ) (v : Value) where
+  module _ (a : Accepted t (headerOf t)) (here : hasBlock (shapeOf (headerOf t)) b ≡ true) where
+    by-place : (kind : FieldKind) (width offset : ℕ) → fieldOf t (headerOf t) f ≡ Fie.Is kind width offset → (n : ℕ) → countIn t (shapeOf (headerOf t)) b ≡ Records n → p < n
+        → cellAt kind t (recordAt (shapeOf (headerOf t)) b p + offset) width ≡ Is v → Stands t b p f v
+    by-place kind width offset e n k l m =
+        let g = shapeOf (headerOf t) in
+        let s = sound t (headerOf t) a in
+        let q = has-block g b here in
+        let d = field-bounds t (headerOf t) a f kind width offset e in
+        record {
+          kind = kind;
+          width = width;
+          at = recordAt g b p + offset;
+          stored = d .stored;
+          permitted = d .permitted;
+          inside = omega (arith, record-inside t g s b n k p l, block-inside t g s b (q .0) (q .1), d .inside, shape-size (headerOf t));
+          means = m;
+        }
+
+    by-count : (kind : FieldKind) (width offset : ℕ) → fieldOf t (headerOf t) f ≡ Fie.Is kind width offset → (k : Count) → countIn t (shapeOf (headerOf t)) b ≡ k
+        → placeCell t (shapeOf (headerOf t)) b p kind width offset k ≡ Is v → Stands t b p f v
+    unfolding placeCell
+    by-count kind width offset e Bad k m = no-value 9 v m
+    by-count kind width offset e (Records n) k m = go (ltb p n) refl m
+      where
+        go : (l : Bool) → ltb p n ≡ l → cond l (cellAt kind t (recordAt (shapeOf (headerOf t)) b p + offset) width) (Refused 13) ≡ Is v → Stands t b p f v
+        go true l m = by-place kind width offset e n k (ltb-true p n l) m
+        go false l m = no-value 13 v m
+
+    by-field : (d : Field) → fieldOf t (headerOf t) f ≡ d → fieldCell t (shapeOf (headerOf t)) b p d ≡ Is v → Stands t b p f v
+    unfolding fieldCell
+    by-field Fie.Missing e m = no-value 13 v m
+    by-field (Fie.Is kind width offset) e m = by-count kind width offset e (countIn t (shapeOf (headerOf t)) b) refl m
+
+  by-block : Accepted t (headerOf t) → (h : Bool) → hasBlock (shapeOf (headerOf t)) b ≡ h
+      → cond h (fieldCell t (shapeOf (headerOf t)) b p (fieldOf t (headerOf t) f)) (Refused 13) ≡ Is v → Stands t b p f v
+  by-block a true h m = by-field a h (fieldOf t (headerOf t) f) refl m
+  by-block a false h m = no-value 13 v m
+
+  -- a cell that reads as a value stands inside the table
+  pub stands : cellOf t b p f ≡ Is v → Stands t b p f v
+  unfolding cellOf blockCell
+  stands m = go (eqb (headerOf t .refusal) 0) refl m
+    where
+      go : (r : Bool) → eqb (headerOf t .refusal) 0 ≡ r
+          → cond r (cond (hasBlock (shapeOf (headerOf t)) b) (fieldCell t (shapeOf (headerOf t)) b p (fieldOf t (headerOf t) f)) (Refused 13)) (Refused (headerOf t .refusal)) ≡ Is v → Stands t b p f v
+      go true r m = by-block (accepted t (eqb-true (headerOf t .refusal) 0 r)) (hasBlock (shapeOf (headerOf t)) b) refl m
+      go false r m = no-value (headerOf t .refusal) v m
+
+-- ---- the part that a text is
+
+-- where a part ends
+abbrev pub ends : Cell → ℕ
+ends c = partOf c .start + partOf c .len
+
+ends-if : (b : Bool) (c d : Cell) (n : ℕ) → ends c ≤ n → ends d ≤ n → ends (cond b c d) ≤ n
+ends-if true c d n h k = h
+ends-if false c d n h k = k
+
+date-ends : (z : ℤ) (n : ℕ) → ends (dateCell z) ≤ n
+unfolding dateCell partOf valuePart
+date-ends (pos d) n = ends-if (isDate d) (Is (Val.Date d)) (Refused 11) n (omega arith) (omega arith)
+date-ends (negsuc d) n = omega arith
+
+value-ends : (kind : FieldKind) (s : List ℕ) (at w : ℕ) → ends (valueAt kind s at w) ≤ at + w
+unfolding valueAt textWith numberCell logicalCell partOf valuePart
+value-ends Kin.Text s at w =
+    ends-if (allZero s (at + beforeZero s at w) (w - beforeZero s at w)) (Is (Val.Text at (beforeZero s at w))) (Refused 11) (at + w) (omega (arith, before-most s at w)) (omega arith)
+value-ends Kin.Date s at w = date-ends (signedAt s at w) (at + w)
+value-ends Kin.Short s at w = omega arith
+value-ends Kin.Long s at w = omega arith
+value-ends Kin.Number s at w = ends-if (finite (doubleAt s at w)) (Is (Val.Number (doubleAt s at w))) (Refused 11) (at + w) (omega arith) (omega arith)
+value-ends Kin.Logical s at w =
+    ends-if (eqb (big s at w) 0x80) (Is (Val.Logical false)) (cond (eqb (big s at w) 0x81) (Is (Val.Logical true)) (Refused 11)) (at + w) (omega arith)
+    (ends-if (eqb (big s at w) 0x81) (Is (Val.Logical true)) (Refused 11) (at + w) (omega arith) (omega arith))
+value-ends Kin.Blob s at w = omega arith
+
+-- a text ends no later than its cell
+cell-ends : (kind : FieldKind) (s : List ℕ) (at w : ℕ) → ends (cellAt kind s at w) ≤ at + w
+unfolding cellAt partOf valuePart
+cell-ends kind s at w = ends-if (not (isBlob kind) && allZero s at w) (Is Val.Blank) (valueAt kind s at w) (at + w) (omega arith) (value-ends kind s at w)
+
+-- a text ends inside the table
+pub part-inside : (t : List ℕ) (b p f : ℕ) → ends (cellOf t b p f) ≤ length t
+unfolding partOf
+part-inside t b p f = go (cellOf t b p f) refl
+  where
+    go : (c : Cell) → cellOf t b p f ≡ c → ends c ≤ length t
+    go (Refused n) e = omega arith
+    go (Is v) e =
+        let s = stands t b p f v e in
+        omega (arith, subst (λ (c : Cell). ends c ≤ s .at + s .width) (s .means) (cell-ends (s .kind) t (s .at) (s .width)), s .inside)
+
+-- and its bytes are the part's
+pub part-is : (s : List ℕ) (c : Cell) → ends c ≤ length s → range s (partOf c .start) (partOf c .len) ≡ textOf (answerOf s c .1)
+unfolding partOf valuePart answerOf contentOf textOf
+part-is s (Refused n) h = refl
+part-is s (Is Val.Blank) h = refl
+part-is s (Is (Val.Short z)) h = refl
+part-is s (Is (Val.Long z)) h = refl
+part-is s (Is (Val.Date d)) h = refl
+part-is s (Is (Val.Number x)) h = refl
+part-is s (Is (Val.Logical b)) h = refl
+part-is s (Is (Val.Text start len)) h = rw (le-leb (start + len) (length s) h)

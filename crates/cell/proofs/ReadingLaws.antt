@@ -1,0 +1,153 @@
+-- The definition of reading, one law for each answer. Assumes nothing.
+use mathlib.Core.Path.{_≡_, refl, sym, ap, _∙_}
+use mathlib.Core.Bool.{Bool, true, false, not, _&&_, true≢false}
+use mathlib.Core.List.{List}
+use Prim.Native.Nat.{ℕ, _+_, _-_, _^_, _≤_, _<_}
+use native.Mathlib.Omega.{arith}
+use borrow.Author.Tests.{le-leb, lt-leb, lt-ltb, le-ltb, eq-eqb, ne-eqb}
+use lib.Ieee.{binary64, ofBits}
+use Rattle.words.specs.Numbers.{Bytes, big}
+use Rattle.words.specs.Signed.{half, complemented, signed}
+use Rattle.words.specs.Zeros.{allZero, beforeZero}
+use Rattle.words.proofs.NumberLaws.{big-lt}
+use Rattle.words.proofs.SignedLaws.{signed-complemented, less-below, less-from}
+use Rattle.header.specs.Kinds.{isBlob, Permitted}
+use Rattle.header.specs.declared.kind.FieldKind.{FieldKind}
+use Rattle.header.specs.declared.kind.FieldKind.the-variants as Kin
+use Rattle.cell.specs.Reading.{dateCell, numberCell, logicalCell, textWith, valueAt, cellAt, placeCell, fieldCell, blockCell, cellOf}
+use Rattle.header.specs.Header.{headerOf, fieldOf}
+use Rattle.header.specs.declared.Header.{Header}
+use Rattle.header.specs.declared.field.Field.the-variants as Fie
+use Rattle.blocks.specs.Shape.{shapeOf, hasBlock, recordAt}
+use Rattle.blocks.specs.Counts.{countIn}
+use Rattle.blocks.specs.declared.count.Count.the-variants.{Records, Bad}
+use Rattle.cell.specs.declared.value.Value.the-variants as Val
+use Rattle.cell.specs.declared.value.Cell.{Cell}
+use Rattle.cell.specs.declared.value.Cell.the-variants.{Is, Refused}
+
+-- ---- dates
+
+module _ (n : ℕ) where
+  pub date-negative : n < 2147483648 → Refused 11 ≡ dateCell (signed 2147483648 (complemented 2147483648 n))
+  unfolding dateCell
+  date-negative h = rw (signed-complemented 2147483648 n (omega arith), less-below n 2147483648 h)
+
+  module _ (small : n < 4294967296) (h : 2147483648 ≤ n) where
+    day : signed 2147483648 (complemented 2147483648 n) ≡ lib.IntN.pos (n - 2147483648)
+    day = signed-complemented 2147483648 n (omega arith) ∙ less-from n 2147483648 h
+
+    pub date-early : n - 2147483648 < 36160 → Refused 11 ≡ dateCell (signed 2147483648 (complemented 2147483648 n))
+    unfolding dateCell
+    date-early l = rw (day, lt-leb 36160 (n - 2147483648) l)
+
+    pub date-late : 3652059 < n - 2147483648 → Refused 11 ≡ dateCell (signed 2147483648 (complemented 2147483648 n))
+    unfolding dateCell
+    date-late l = rw (day, le-leb 36160 (n - 2147483648) (omega arith), lt-leb (n - 2147483648) 3652059 l)
+
+    pub date-is : 36160 ≤ n - 2147483648 → n - 2147483648 ≤ 3652059 → Is (Val.Date (n - 2147483648)) ≡ dateCell (signed 2147483648 (complemented 2147483648 n))
+    unfolding dateCell
+    date-is l m = rw (day, le-leb 36160 (n - 2147483648) l, le-leb (n - 2147483648) 3652059 m)
+
+-- ---- text
+
+module _ (s : List ℕ) (at w l : ℕ) where
+  pub text-refused : allZero s (at + l) (w - l) ≡ false → Refused 11 ≡ textWith s at w l
+  unfolding textWith
+  text-refused e = rw e
+
+  pub text-is : allZero s (at + l) (w - l) ≡ true → Is (Val.Text at l) ≡ textWith s at w l
+  unfolding textWith
+  text-is e = rw e
+
+-- a number that was read in w bytes is below that power
+pub number-below : (s : List ℕ) (at w v : ℕ) → Bytes s → (n : ℕ) → w ≡ v → n ≡ big s at w → n < 256 ^ v
+number-below s at w v bytes n e f = rw (f, ← e) (big-lt s at w bytes)
+
+-- ---- a cell, by its kind
+
+blob-value : (s : List ℕ) (at w : ℕ) (k : FieldKind) → isBlob k ≡ true → Refused 12 ≡ valueAt k s at w
+unfolding isBlob valueAt
+blob-value s at w Kin.Text e = absurd (true≢false (sym e))
+blob-value s at w Kin.Date e = absurd (true≢false (sym e))
+blob-value s at w Kin.Short e = absurd (true≢false (sym e))
+blob-value s at w Kin.Long e = absurd (true≢false (sym e))
+blob-value s at w Kin.Number e = absurd (true≢false (sym e))
+blob-value s at w Kin.Logical e = absurd (true≢false (sym e))
+blob-value s at w Kin.Blob e = refl
+
+and-false : (b : Bool) → (b && false) ≡ false
+and-false true = refl
+and-false false = refl
+
+module _ (kind : FieldKind) (s : List ℕ) (at w : ℕ) where
+  pub cell-blob : isBlob kind ≡ true → Refused 12 ≡ cellAt kind s at w
+  unfolding cellAt
+  cell-blob e = rw e (blob-value s at w kind e)
+
+  pub cell-blank : isBlob kind ≡ false → allZero s at w ≡ true → Is Val.Blank ≡ cellAt kind s at w
+  unfolding cellAt
+  cell-blank e z = rw (e, z)
+
+  -- bytes that are not all zero mean what their kind says
+  cell-value : allZero s at w ≡ false → valueAt kind s at w ≡ cellAt kind s at w
+  unfolding cellAt
+  cell-value z = rw (z, and-false (not (isBlob kind)))
+
+module _ (s : List ℕ) (at w : ℕ) (z : allZero s at w ≡ false) where
+  pub cell-text : textWith s at w (beforeZero s at w) ≡ cellAt Kin.Text s at w
+  unfolding valueAt
+  cell-text = cell-value Kin.Text s at w z
+
+  pub cell-date : Permitted Kin.Date w → (n : ℕ) → n ≡ big s at w → dateCell (signed 2147483648 (complemented 2147483648 n)) ≡ cellAt Kin.Date s at w
+  unfolding Permitted valueAt
+  cell-date p n f = rw f (ap (λ (v : ℕ). dateCell (signed (half v) (complemented (half v) (big s at w)))) (sym p) ∙ cell-value Kin.Date s at w z)
+
+  pub cell-short : Permitted Kin.Short w → (n : ℕ) → n ≡ big s at w → Is (Val.Short (signed 32768 (complemented 32768 n))) ≡ cellAt Kin.Short s at w
+  unfolding Permitted valueAt
+  cell-short p n f = rw f (ap {B = Cell} (λ (v : ℕ). Is (Val.Short (signed (half v) (complemented (half v) (big s at w))))) (sym p) ∙ cell-value Kin.Short s at w z)
+
+  pub cell-long : Permitted Kin.Long w → (n : ℕ) → n ≡ big s at w → Is (Val.Long (signed 2147483648 (complemented 2147483648 n))) ≡ cellAt Kin.Long s at w
+  unfolding Permitted valueAt
+  cell-long p n f = rw f (ap {B = Cell} (λ (v : ℕ). Is (Val.Long (signed (half v) (complemented (half v) (big s at w))))) (sym p) ∙ cell-value Kin.Long s at w z)
+
+  pub cell-number : Permitted Kin.Number w → (n : ℕ) → n ≡ big s at w → numberCell (ofBits binary64 (complemented 9223372036854775808 n)) ≡ cellAt Kin.Number s at w
+  unfolding Permitted valueAt
+  cell-number p n f = rw f (ap (λ (v : ℕ). numberCell (ofBits binary64 (complemented (half v) (big s at w)))) (sym p) ∙ cell-value Kin.Number s at w z)
+
+  pub cell-logical : (n : ℕ) → n ≡ big s at w → logicalCell n ≡ cellAt Kin.Logical s at w
+  unfolding valueAt
+  cell-logical n f = rw f (cell-value Kin.Logical s at w z)
+
+-- ---- by block, place and field
+
+module _ (t : List ℕ) (h : Header) (b p f : ℕ) where
+  pub block-none : hasBlock (shapeOf h) b ≡ false → Refused 13 ≡ blockCell t h b p f
+  unfolding blockCell
+  block-none e = rw e
+
+  module _ (here : hasBlock (shapeOf h) b ≡ true) where
+    pub block-missing : fieldOf t h f ≡ Fie.Missing → Refused 13 ≡ blockCell t h b p f
+    unfolding blockCell fieldCell
+    block-missing e = rw (here, e)
+
+    module _ (kind : FieldKind) (width offset : ℕ) (e : fieldOf t h f ≡ Fie.Is kind width offset) where
+      pub block-bad : countIn t (shapeOf h) b ≡ Bad → Refused 9 ≡ blockCell t h b p f
+      unfolding blockCell fieldCell placeCell
+      block-bad k = rw (here, e, k)
+
+      pub block-short : (n : ℕ) → countIn t (shapeOf h) b ≡ Records n → n ≤ p → Refused 13 ≡ blockCell t h b p f
+      unfolding blockCell fieldCell placeCell
+      block-short n k l = rw (here, e, k, le-ltb p n l)
+
+      pub block-cell : (n : ℕ) → countIn t (shapeOf h) b ≡ Records n → p < n → cellAt kind t (recordAt (shapeOf h) b p + offset) width ≡ blockCell t h b p f
+      unfolding blockCell fieldCell placeCell
+      block-cell n k l = rw (here, e, k, lt-ltb p n l)
+
+module _ (t : List ℕ) (b p f : ℕ) where
+  pub cell-refused : (headerOf t .refusal ≡ 0 → ⊥) → Refused (headerOf t .refusal) ≡ cellOf t b p f
+  unfolding cellOf
+  cell-refused e = rw (ne-eqb (headerOf t .refusal) 0 e)
+
+  pub cell-accepted : headerOf t .refusal ≡ 0 → blockCell t (headerOf t) b p f ≡ cellOf t b p f
+  unfolding cellOf
+  cell-accepted e = rw (eq-eqb (headerOf t .refusal) 0 e)

@@ -1,0 +1,58 @@
+-- What the private functions ask and answer: no rule is stated here. Definitions only.
+use Prim.Native.Nat.{ℕ, _+_, _≤_}
+use mathlib.Core.Path.{_≡_}
+use mathlib.Core.List.{List}
+use lib.ListN.{length}
+use Rattle.words.specs.Numbers.{digits}
+use Rattle.cell.specs.Values.{Content, nothing, blank, short, long, date, number, logical, text}
+use Rattle.cell.specs.Writing.{Form, none, bytes}
+use Rattle.cell.specs.declared.value.Value.{Value}
+use Rattle.cell.specs.declared.value.Value.the-variants as Val
+use Rattle.cell.specs.declared.value.Cell.{Cell}
+use Rattle.cell.specs.declared.value.Cell.the-variants as Cel
+use Rattle.cell.specs.declared.part.Part.{Part}
+use Rattle.cell.specs.declared.encode.Coded.{Coded}
+use Rattle.cell.specs.declared.encode.Coded.the-variants as Cod
+
+-- the form of a number in w bytes
+unfoldable pub codedForm : ℕ → Coded → Form
+codedForm w (Cod.Number n) = bytes (digits w n)
+codedForm w Cod.None = none
+
+-- the width that a value's kind has, where it has one only
+unfoldable pub OfWidth : Content → ℕ → Type 0
+OfWidth nothing w = Unit {0}
+OfWidth blank w = Unit {0}
+OfWidth (short z) w = w ≡ 2
+OfWidth (long z) w = w ≡ 4
+OfWidth (date d) w = w ≡ 4
+OfWidth (number x) w = w ≡ 8
+OfWidth (logical b) w = w ≡ 1
+OfWidth (text s) w = Unit {0}
+
+-- a text is a part of the bytes lent for it
+unfoldable pub Lent : List ℕ → Value → Type 0
+Lent s Val.Blank = Unit {0}
+Lent s (Val.Short z) = Unit {0}
+Lent s (Val.Long z) = Unit {0}
+Lent s (Val.Date d) = Unit {0}
+Lent s (Val.Number x) = Unit {0}
+Lent s (Val.Logical b) = Unit {0}
+Lent s (Val.Text start len) = start + len ≤ length s
+
+-- which part of the table a text is
+abbrev pub noPart : Part
+noPart = record { start = 0; len = 0 }
+
+unfoldable pub valuePart : Value → Part
+valuePart Val.Blank = noPart
+valuePart (Val.Short z) = noPart
+valuePart (Val.Long z) = noPart
+valuePart (Val.Date d) = noPart
+valuePart (Val.Number x) = noPart
+valuePart (Val.Logical b) = noPart
+valuePart (Val.Text start len) = record { start = start; len = len }
+
+unfoldable pub partOf : Cell → Part
+partOf (Cel.Is v) = valuePart v
+partOf (Cel.Refused n) = noPart

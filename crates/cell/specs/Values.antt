@@ -1,0 +1,50 @@
+-- The values of document 01's cells, and what each case of the enums stands for. Definitions only.
+use Prim.Native.Nat.{ℕ, _+_}
+use mathlib.Core.Bool.{Bool, cond}
+use mathlib.Core.List.{List, []}
+use lib.Dec.{leb}
+use lib.IntN.{ℤ}
+use lib.Ieee.{Float}
+use lib.ListN.{length}
+use Rattle.words.specs.Order.{range}
+use Rattle.cell.specs.declared.value.Value.{Value}
+use Rattle.cell.specs.declared.value.Value.the-variants as Val
+use Rattle.cell.specs.declared.value.Cell.{Cell}
+use Rattle.cell.specs.declared.value.Cell.the-variants as Cel
+
+-- a value; a text is its bytes
+pub data Content : Type 0 where
+  nothing : Content
+  blank : Content
+  short : ℤ → Content
+  long : ℤ → Content
+  date : ℕ → Content
+  number : Float → Content
+  logical : Bool → Content
+  text : List ℕ → Content
+
+-- what a Value stands for: a text is a part of lent bytes, and nothing where they have no such part
+unfoldable pub contentOf : List ℕ → Value → Content
+contentOf s Val.Blank = blank
+contentOf s (Val.Short z) = short z
+contentOf s (Val.Long z) = long z
+contentOf s (Val.Date d) = date d
+contentOf s (Val.Number x) = number x
+contentOf s (Val.Logical b) = logical b
+contentOf s (Val.Text start len) = cond (leb (start + len) (length s)) (text (range s start len)) nothing
+
+-- a cell's answer as document 01's number and value: 0 and the value, or a refusal's number and no value
+unfoldable pub answerOf : List ℕ → Cell → ℕ × Content
+answerOf s (Cel.Is v) = (0, contentOf s v)
+answerOf s (Cel.Refused n) = (n, nothing)
+
+-- the bytes of a text; empty where the value is no text
+unfoldable pub textOf : Content → List ℕ
+textOf nothing = []
+textOf blank = []
+textOf (short z) = []
+textOf (long z) = []
+textOf (date d) = []
+textOf (number x) = []
+textOf (logical b) = []
+textOf (text bytes) = bytes

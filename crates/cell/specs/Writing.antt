@@ -1,0 +1,108 @@
+-- Which bytes a value has in a cell, and what writing it answers. Definitions only.
+use Prim.Native.Nat.{ℕ, suc, _+_, _-_}
+use mathlib.Core.Bool.{Bool, true, false, cond, not, _&&_}
+use mathlib.Core.List.{List, _++_}
+use lib.Dec.{eqb, leb, ltb}
+use lib.IntN.{ℤ, pos, negsuc}
+use lib.Ieee.{Float, nan, inf, fin, binary64, toBits}
+use lib.Ieee.Scale.{finite}
+use lib.ListN.{length, drop, replicate}
+use Rattle.words.specs.Numbers.{digits}
+use Rattle.words.specs.Signed.{half, complemented}
+use Rattle.words.specs.Zeros.{beforeZero}
+use Rattle.header.specs.Refusals.{noMeaning, blobCell, badArgument, shortBuffer}
+use Rattle.header.specs.Kinds.{kindOf, isBlob}
+use Rattle.header.specs.declared.kind.FieldKind.{FieldKind}
+use Rattle.header.specs.declared.kind.FieldKind.the-variants as Kin
+use Rattle.header.specs.declared.kind.StoredKind.{StoredKind}
+use Rattle.header.specs.declared.kind.StoredKind.the-variants.{Kind, Unknown}
+use Rattle.cell.specs.Values.{Content, nothing, blank, short, long, date, number, logical, text}
+use Rattle.cell.specs.Reading.{isDate}
+
+-- ---- the stored form
+
+-- the bytes of a cell, or none
+pub data Form : Type 0 where
+  none : Form
+  bytes : List ℕ → Form
+
+-- short, long: z and the top bit added, where that is above 0 and fits w bytes; the least number would be the blank
+unfoldable pub signedForm : ℕ → ℤ → Form
+signedForm w (pos m) = cond (ltb m (half w)) (bytes (digits w (m + half w))) none
+signedForm w (negsuc m) = cond (ltb (suc m) (half w)) (bytes (digits w (half w - suc m))) none
+
+unfoldable pub dateForm : ℕ → ℕ → Form
+dateForm w d = cond (isDate d) (bytes (digits w (d + half w))) none
+
+-- negative zero, whose bytes would be the blank's
+unfoldable pub minusZero : Float → Bool
+minusZero nan = false
+minusZero (inf s) = false
+minusZero (fin s m e) = s && eqb m 0
+
+unfoldable pub numberForm : ℕ → Float → Form
+numberForm w x = cond (finite x && not (minusZero x)) (bytes (digits w (complemented (half w) (toBits binary64 x)))) none
+
+-- no byte is zero
+abbrev pub noZero : List ℕ → Bool
+noZero s = eqb (beforeZero s 0 (length s)) (length s)
+
+-- text: 1 to w bytes without a zero, and zeros behind them
+unfoldable pub textForm : ℕ → List ℕ → Form
+textForm w s = cond (leb 1 (length s) && leb (length s) w && noZero s) (bytes (s ++ replicate (w - length s) 0)) none
+
+-- the w bytes of a value
+unfoldable pub formOf : ℕ → Content → Form
+formOf w nothing = none
+formOf w blank = bytes (replicate w 0)
+formOf w (short z) = signedForm w z
+formOf w (long z) = signedForm w z
+formOf w (date d) = dateForm w d
+formOf w (number x) = numberForm w x
+formOf w (logical b) = bytes (digits w (cond b 0x81 0x80))
+formOf w (text s) = textForm w s
+
+-- ---- writing
+
+-- a code of each kind, to tell kinds apart; 05 and 06 share one
+abbrev pub codeOf : FieldKind → ℕ
+codeOf Kin.Text = 0x01
+codeOf Kin.Date = 0x02
+codeOf Kin.Short = 0x03
+codeOf Kin.Long = 0x04
+codeOf Kin.Number = 0x06
+codeOf Kin.Logical = 0x09
+codeOf Kin.Blob = 0x0C
+
+-- whether a value is of a kind; blank suits every kind
+unfoldable pub suits : Content → FieldKind → Bool
+suits nothing kind = false
+suits blank kind = true
+suits (short z) kind = eqb (codeOf kind) 0x03
+suits (long z) kind = eqb (codeOf kind) 0x04
+suits (date d) kind = eqb (codeOf kind) 0x02
+suits (number x) kind = eqb (codeOf kind) 0x06
+suits (logical b) kind = eqb (codeOf kind) 0x09
+suits (text s) kind = eqb (codeOf kind) 0x01
+
+-- 11 for no stored form; else 0, and the form in the first bytes
+unfoldable pub putForm : ℕ → Form → List ℕ → ℕ × List ℕ
+putForm w none buffer = (noMeaning, buffer)
+putForm w (bytes s) buffer = (0, s ++ drop w buffer)
+
+-- 14 for a short buffer
+unfoldable pub putValue : ℕ → Content → List ℕ → ℕ × List ℕ
+putValue w c buffer = cond (leb w (length buffer)) (putForm w (formOf w c) buffer) (shortBuffer, buffer)
+
+-- 12 for a blob, whatever the value; 13 for a value of another kind
+unfoldable pub writeKind : FieldKind → ℕ → Content → List ℕ → ℕ × List ℕ
+writeKind kind w c buffer = cond (isBlob kind) (blobCell, buffer) (cond (suits c kind) (putValue w c buffer) (badArgument, buffer))
+
+-- 13 for a bad code or width
+unfoldable pub writeStored : StoredKind → ℕ → Content → List ℕ → ℕ × List ℕ
+writeStored Unknown w c buffer = (badArgument, buffer)
+writeStored (Kind kind) w c buffer = writeKind kind w c buffer
+
+-- the answer and the whole buffer after it: 13, 12, 14, 11 in that order, and a refusal leaves the buffer as it was
+unfoldable pub writeOf : ℕ → ℕ → Content → List ℕ → ℕ × List ℕ
+writeOf code w c buffer = writeStored (kindOf code w) w c buffer

@@ -1,0 +1,105 @@
+// What the bytes of a cell mean, kind by kind.
+// The module is private: its functions are helpers of `cell::read_in`, which meets what they require.
+ghost use mathlib.Core.Path.{_≡_};
+ghost use Prim.Native.Nat.{_+_, _≤_, _<_};
+ghost use lib.Ieee.{binary64, ofBits};
+ghost use lib.ListN.{length};
+ghost use Rattle.words.specs.Signed.{complemented, signed};
+ghost use Rattle.words.specs.Zeros.{beforeZero};
+ghost use Rattle.header.specs.Kinds.{Permitted};
+ghost use Rattle.cell.specs.Reading.{cellAt, dateCell, logicalCell, numberCell, textWith};
+use crate::double;
+use crate::limits;
+use crate::value::Cell;
+use crate::value::Value;
+use header::FieldKind;
+use header::refusal;
+
+// A short of two bytes: the top bit complemented, then signed.
+fn short_of(n: u64) -> i16
+    requires { ⌜ n < 65536 ⌝ }
+    ensures { λ r. ⌜ r ≡ signed 32768 (complemented 32768 n) ⌝ }
+{
+    (n as i64 - limits::SHORT_TOP) as i16
+}
+
+// A long of four bytes, in the same way.
+fn long_of(n: u64) -> i32
+    requires { ⌜ n < 4294967296 ⌝ }
+    ensures { λ r. ⌜ r ≡ signed 2147483648 (complemented 2147483648 n) ⌝ }
+{
+    (n as i64 - limits::LONG_TOP) as i32
+}
+
+fn date_of(n: u64) -> Cell
+    requires { ⌜ n < 4294967296 ⌝ }
+    ensures { λ r. ⌜ r ≡ dateCell (signed 2147483648 (complemented 2147483648 n)) ⌝ }
+{
+    if n < limits::DATE_TOP {
+        return Cell::Refused(refusal::NO_MEANING);
+    }
+    let day = n - limits::DATE_TOP;
+    if day < limits::LEAST_DATE {
+        return Cell::Refused(refusal::NO_MEANING);
+    }
+    if limits::MOST_DATE < day {
+        return Cell::Refused(refusal::NO_MEANING);
+    }
+    Cell::Is(Value::Date(day as u32))
+}
+
+fn number_of(n: u64) -> Cell
+    ensures { λ r. ⌜ r ≡ numberCell (ofBits binary64 (complemented 9223372036854775808 n)) ⌝ }
+{
+    let bits = double::top_complemented(n);
+    if !double::is_finite(bits) {
+        return Cell::Refused(refusal::NO_MEANING);
+    }
+    Cell::Is(Value::Number(f64::from_bits(bits)))
+}
+
+fn logical_of(n: u64) -> Cell
+    ensures { λ r. ⌜ r ≡ logicalCell n ⌝ }
+{
+    if n == limits::FALSE {
+        return Cell::Is(Value::Logical(false));
+    }
+    if n == limits::TRUE {
+        return Cell::Is(Value::Logical(true));
+    }
+    Cell::Refused(refusal::NO_MEANING)
+}
+
+// The bytes before the first zero, where nothing but zeros follows.
+fn text_at(t: &[u8], at: usize, width: usize) -> Cell
+    requires { ⌜ at + width ≤ length (now t) ⌝ }
+    ensures { λ r. ⌜ r ≡ textWith (now (t .entry)) at width (beforeZero (now (t .entry)) at width) ⌝ }
+{
+    let len = words::before_zero(t, at, width);
+    if !words::all_zero(t, at + len, width - len) {
+        return Cell::Refused(refusal::NO_MEANING);
+    }
+    Cell::Is(Value::Text { start: at, len })
+}
+
+// The meaning of the `width` bytes at `at`.
+pub fn cell_at(t: &[u8], kind: FieldKind, at: usize, width: usize) -> Cell
+    requires { ⌜ Permitted kind width × (at + width ≤ length (now t)) ⌝ }
+    ensures { λ r. ⌜ r ≡ cellAt kind (now (t .entry)) at width ⌝ }
+{
+    if kind.is_blob() {
+        return Cell::Refused(refusal::BLOB_CELL);
+    }
+    if words::all_zero(t, at, width) {
+        return Cell::Is(Value::Blank);
+    }
+    match kind {
+        FieldKind::Text => text_at(t, at, width),
+        FieldKind::Date => date_of(words::number(t, at, width)),
+        FieldKind::Short => Cell::Is(Value::Short(short_of(words::number(t, at, width)))),
+        FieldKind::Long => Cell::Is(Value::Long(long_of(words::number(t, at, width)))),
+        FieldKind::Number => number_of(words::number(t, at, width)),
+        FieldKind::Logical => logical_of(words::number(t, at, width)),
+        FieldKind::Blob => Cell::Refused(refusal::BLOB_CELL),
+    }
+}

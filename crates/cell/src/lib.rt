@@ -1,0 +1,92 @@
+// One cell: read by block, place and field; its text as the part of the table it is; one value written.
+mod decode;
+mod double;
+mod encode;
+mod limits;
+mod part;
+mod value;
+
+pub use value::Cell;
+pub use value::Value;
+ghost use mathlib.Core.Path.{_≡_};
+ghost use Rattle.header.specs.Rules.{Accepted};
+ghost use Rattle.cell.specs.Values.{answerOf, contentOf, textOf};
+ghost use Rattle.cell.specs.Reading.{blockCell, cellOf};
+ghost use Rattle.cell.specs.Writing.{writeOf};
+use blocks::Count;
+use header::Field;
+use header::FieldKind;
+use header::Header;
+use header::StoredKind;
+use header::refusal;
+
+// The cell at a block, a place (from 0) and a field (from 1) of any bytes: its value, or the first of
+// 1 to 7, 13, 9, 13, 12 and 11 that applies. Whether the block is used is not judged.
+pub fn read(table: &[u8], block: usize, place: usize, field: usize) -> Cell
+    ensures { λ r. ⌜ r ≡ cellOf (now (table .entry)) block place field ⌝ }
+{
+    let h = header::read(table);
+    if h.refusal != refusal::ACCEPTED {
+        return Cell::Refused(h.refusal);
+    }
+    read_in(table, h, block, place, field)
+}
+
+// The same where the header was read before, so that many cells cost its rules once. A helper of the
+// crates above and no call of a user: whoever calls it has found this header of this table accepted.
+pub fn read_in(table: &[u8], h: Header, block: usize, place: usize, field: usize) -> Cell
+    requires { ⌜ Accepted (now table) h ⌝ }
+    ensures { λ r. ⌜ r ≡ blockCell (now (table .entry)) h block place field ⌝ }
+{
+    let shape = blocks::shape_of(h);
+    if !blocks::has_block(shape, block) {
+        return Cell::Refused(refusal::BAD_ARGUMENT);
+    }
+    let Field::Is {
+        kind,
+        width,
+        offset,
+    } = header::field_of(table, h, field)
+    else {
+        return Cell::Refused(refusal::BAD_ARGUMENT);
+    };
+    let Count::Records(records) = blocks::count_in(table, shape, block) else {
+        return Cell::Refused(refusal::WRONG_COUNT);
+    };
+    if records as usize <= place {
+        return Cell::Refused(refusal::BAD_ARGUMENT);
+    }
+    let at = blocks::record_at(shape, block, place) + offset as usize;
+    decode::cell_at(table, kind, at, width as usize)
+}
+
+// The text of a cell as the part of the table it is; empty where `read` gives no text.
+pub fn text(table: &[u8], block: usize, place: usize, field: usize) -> &[u8]
+    ensures { λ r. ⌜ now r ≡ textOf (answerOf (now (table .entry)) (cellOf (now (table .entry)) block place field) .1) ⌝ }
+{
+    let part = part::text_part(read(table, block, place, field));
+    let start = part.start;
+    let end = start + part.len;
+    &table[start..end]
+}
+
+// Writes a value as a cell of a type code and width into the first `width` bytes of a buffer. A text is
+// the part of `text` that its value names. Answers 0, or the first of 13, 12, 14 and 11 that applies and
+// leaves the buffer as it was; the bytes past the width never change.
+pub fn write(code: u8, width: usize, value: Value, text: &[u8], buffer: &mut [u8]) -> u8
+    ensures { λ r. ⌜ (r, now (buffer .exit)) ≡ writeOf code width (contentOf (now (text .entry)) value) (now (buffer .entry)) ⌝ }
+{
+    let StoredKind::Kind(kind) = FieldKind::of(code, width) else {
+        return refusal::BAD_ARGUMENT;
+    };
+    if kind.is_blob() {
+        return refusal::BLOB_CELL;
+    }
+    if !encode::suits(kind, value, text) {
+        return refusal::BAD_ARGUMENT;
+    }
+    if buffer.len() < width {
+        return refusal::SHORT_BUFFER;
+    }
+    encode::put_value(value, width, text, buffer)
+}
