@@ -8,11 +8,12 @@ use native.Mathlib.Nat.{le-antisymm}
 use native.Mathlib.Numerals.{add-one}
 use native.Mathlib.Omega.{arith}
 use lib.Dec.{leb, ltb}
-use lib.ListN.{length, take, drop, set, replicate, length-append, length-drop, length-replicate, getD-replicate, List·getD-append}
-use lib.Seq.{length-take-le, length-front, take-length, take-suc, drop-cons, getD-take, getD-drop, getD-append-add, set-at}
+use lib.ListN.{length, take, drop, set, replicate, length-append, length-replicate, getD-replicate, List·getD-append}
+use lib.Seq.{length-take-le, length-front, take-length, take-suc, drop-cons, getD-append-add, set-at}
 use borrow.Author.Tests.{le-leb, lt-leb, lt-ltb, le-ltb}
 use Rattle.words.specs.Numbers.{byte}
 use Rattle.words.specs.Order.{range}
+use Rattle.words.proofs.Ranges.{range-length, range-byte}
 use Rattle.words.proofs.SignedLaws.{lt-or-ge}
 use Rattle.header.specs.declared.kind.FieldKind.the-variants as Kin
 use Rattle.cell.specs.declared.value.Value.the-variants as Val
@@ -28,12 +29,9 @@ part-is l start len h =
 
 -- ---- a text with zeros behind it
 
-module _ (s : List ℕ) (start len w : ℕ) (fits : len ≤ w) (inside : start + len ≤ length s) where
-  pub range-length : length (range s start len) ≡ len
-  range-length = length-take-le len (drop start s) (rw (length-drop start s) (omega arith))
-
-  pub padded-length : length (range s start len ++ replicate (w - len) 0) ≡ w
-  padded-length = length-append (range s start len) (replicate (w - len) 0) ∙ rw (range-length, length-replicate {A = ℕ} (w - len) 0) (omega arith)
+pub padded-length : (s : List ℕ) (start len w : ℕ) → len ≤ w → start + len ≤ length s → length (range s start len ++ replicate (w - len) 0) ≡ w
+padded-length s start len w fits inside =
+    length-append (range s start len) (replicate (w - len) 0) ∙ rw (range-length s start len inside, length-replicate {A = ℕ} (w - len) 0) (omega arith)
 
 pub padded-byte : (s : List ℕ) (start len w i : ℕ) → len ≤ w → start + len ≤ length s → i < w
     → cond (ltb i len) (byte s (start + i)) 0 ≡ byte (range s start len ++ replicate (w - len) 0) i
@@ -41,9 +39,9 @@ padded-byte s start len w i fits inside h =
     ⊎-elim
     (λ (l : i < len).
     rw (lt-ltb i len l)
-    (sym (List·getD-append (range s start len) (replicate (w - len) 0) 0 i (rw (range-length s start len w fits inside) l) ∙ getD-take len (drop start s) i 0 l ∙ getD-drop start s i 0)))
+    (sym (List·getD-append (range s start len) (replicate (w - len) 0) 0 i (rw (range-length s start len inside) l) ∙ range-byte s start len i l)))
     (λ (l : len ≤ i).
-    let e : i ≡ length (range s start len) + (i - len) = rw (range-length s start len w fits inside) (omega arith) in
+    let e : i ≡ length (range s start len) + (i - len) = rw (range-length s start len inside) (omega arith) in
     rw (le-ltb i len l)
     (sym (ap (byte (range s start len ++ replicate (w - len) 0)) e ∙ getD-append-add (range s start len) (replicate (w - len) 0) (i - len) 0 ∙ getD-replicate (w - len) (i - len) 0 0 (omega arith))))
     (lt-or-ge i len)

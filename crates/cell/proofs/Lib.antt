@@ -1,7 +1,10 @@
 pub mod CopyLaws
 pub mod DoubleLaws
+pub mod Inverse
 pub mod PlaceLaws
 pub mod ReadingLaws
+pub mod RoundTrip
 pub mod SignedCasts
 pub mod SuitLaws
+pub mod Vectors
 pub mod WritingLaws

@@ -28,6 +28,7 @@ use Rattle.blocks.specs.declared.count.Count.{Count}
 use Rattle.blocks.specs.declared.count.Count.the-variants.{Records, Bad}
 use Rattle.blocks.proofs.ShapeLaws.{sound, shape-size, has-block, block-inside}
 use Rattle.blocks.proofs.CountLaws.{record-inside}
+use Rattle.cell.proofs.ReadingLaws.{no-cell}
 use Rattle.cell.specs.Values.{textOf, answerOf, contentOf}
 use Rattle.cell.specs.Reading.{signedAt, doubleAt, textWith, dateCell, numberCell, logicalCell, isDate, valueAt, cellAt, placeCell, fieldCell, blockCell, cellOf}
 use Rattle.cell.specs.Steps.{valuePart, partOf}
@@ -35,10 +36,6 @@ use Rattle.cell.specs.declared.value.Value.{Value}
 use Rattle.cell.specs.declared.value.Value.the-variants as Val
 use Rattle.cell.specs.declared.value.Cell.{Cell}
 use Rattle.cell.specs.declared.value.Cell.the-variants.{Is, Refused}
-
--- a refusal is no value
-pub no-value : {X : Type 0} (n : ℕ) (v : Value) → Refused n ≡ Is v → X
-no-value n v e = let z : _≡_ {A = ℕ} 0 1 = cc in absurd (omega arith)
 
 -- where the cell at a block, place and field stands: the kind of its stored pair, its width and its place in the table
 pub record Stands (t : List ℕ) (b p f : ℕ) (v : Value) : Type 0 where
@@ -72,22 +69,22 @@ module _ (t : List ℕ) (b p f : ℕ) (v : Value) where
     by-count : (kind : FieldKind) (width offset : ℕ) → fieldOf t (headerOf t) f ≡ Fie.Is kind width offset → (k : Count) → countIn t (shapeOf (headerOf t)) b ≡ k
         → placeCell t (shapeOf (headerOf t)) b p kind width offset k ≡ Is v → Stands t b p f v
     unfolding placeCell
-    by-count kind width offset e Bad k m = no-value 9 v m
+    by-count kind width offset e Bad k m = no-cell m
     by-count kind width offset e (Records n) k m = go (ltb p n) refl m
       where
         go : (l : Bool) → ltb p n ≡ l → cond l (cellAt kind t (recordAt (shapeOf (headerOf t)) b p + offset) width) (Refused 13) ≡ Is v → Stands t b p f v
         go true l m = by-place kind width offset e n k (ltb-true p n l) m
-        go false l m = no-value 13 v m
+        go false l m = no-cell m
 
     by-field : (d : Field) → fieldOf t (headerOf t) f ≡ d → fieldCell t (shapeOf (headerOf t)) b p d ≡ Is v → Stands t b p f v
     unfolding fieldCell
-    by-field Fie.Missing e m = no-value 13 v m
+    by-field Fie.Missing e m = no-cell m
     by-field (Fie.Is kind width offset) e m = by-count kind width offset e (countIn t (shapeOf (headerOf t)) b) refl m
 
   by-block : Accepted t (headerOf t) → (h : Bool) → hasBlock (shapeOf (headerOf t)) b ≡ h
       → cond h (fieldCell t (shapeOf (headerOf t)) b p (fieldOf t (headerOf t) f)) (Refused 13) ≡ Is v → Stands t b p f v
   by-block a true h m = by-field a h (fieldOf t (headerOf t) f) refl m
-  by-block a false h m = no-value 13 v m
+  by-block a false h m = no-cell m
 
   -- a cell that reads as a value stands inside the table
   pub stands : cellOf t b p f ≡ Is v → Stands t b p f v
@@ -97,7 +94,7 @@ module _ (t : List ℕ) (b p f : ℕ) (v : Value) where
       go : (r : Bool) → eqb (headerOf t .refusal) 0 ≡ r
           → cond r (cond (hasBlock (shapeOf (headerOf t)) b) (fieldCell t (shapeOf (headerOf t)) b p (fieldOf t (headerOf t) f)) (Refused 13)) (Refused (headerOf t .refusal)) ≡ Is v → Stands t b p f v
       go true r m = by-block (accepted t (eqb-true (headerOf t .refusal) 0 r)) (hasBlock (shapeOf (headerOf t)) b) refl m
-      go false r m = no-value (headerOf t .refusal) v m
+      go false r m = no-cell m
 
 -- ---- the part that a text is
 

@@ -21,9 +21,14 @@ use Rattle.header.specs.declared.field.Field.the-variants as Fie
 use Rattle.blocks.specs.Shape.{shapeOf, hasBlock, recordAt}
 use Rattle.blocks.specs.Counts.{countIn}
 use Rattle.blocks.specs.declared.count.Count.the-variants.{Records, Bad}
+use Rattle.cell.specs.declared.value.Value.{Value}
 use Rattle.cell.specs.declared.value.Value.the-variants as Val
 use Rattle.cell.specs.declared.value.Cell.{Cell}
 use Rattle.cell.specs.declared.value.Cell.the-variants.{Is, Refused}
+
+-- a refusal is not a value
+pub no-cell : {X : Type 0} {n : ℕ} {v : Value} → Refused n ≡ Is v → X
+no-cell h = let z : _≡_ {A = ℕ} 0 1 = cc in absurd (omega arith)
 
 -- ---- dates
 

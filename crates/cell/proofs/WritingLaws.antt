@@ -1,12 +1,11 @@
 -- The definition of writing, one law for each form and each answer. Assumes nothing.
-use mathlib.Core.Path.{_≡_, ap, _∙_, subst}
+use mathlib.Core.Path.{_≡_, ap, subst}
 use mathlib.Core.Bool.{Bool, true, false, cond}
 use mathlib.Core.List.{List, _++_}
 use Prim.Native.Nat.{ℕ, _+_, _-_, _≤_, _<_}
 use native.Mathlib.Nat.{le-antisymm, zero-add}
 use native.Mathlib.Omega.{arith}
-use lib.ListN.{length, drop, replicate}
-use lib.Seq.{getD-take, getD-drop}
+use lib.ListN.{length, replicate}
 use borrow.Author.Tests.{le-leb, lt-leb, eq-eqb, ne-eqb}
 use lib.IntN.{ℤ}
 use lib.Ieee.{Float}
@@ -14,6 +13,7 @@ use Rattle.words.specs.Numbers.{digits}
 use Rattle.words.specs.Order.{range}
 use Rattle.words.specs.Zeros.{beforeZero}
 use Rattle.words.proofs.DigitLaws.{digits-zero}
+use Rattle.words.proofs.Ranges.{range-length, range-byte}
 use Rattle.words.proofs.ZeroLaws.{before-same, before-most}
 use Rattle.header.specs.declared.kind.FieldKind.{FieldKind}
 use Rattle.header.specs.declared.kind.FieldKind.the-variants as Kin
@@ -27,7 +27,6 @@ use Rattle.cell.specs.declared.value.Value.{Value}
 use Rattle.cell.specs.declared.value.Value.the-variants as Val
 use Rattle.cell.specs.declared.encode.Coded.{Coded}
 use Rattle.cell.specs.declared.encode.Coded.the-variants as Cod
-use Rattle.cell.proofs.CopyLaws.{range-length}
 
 -- ---- a number's form, by the case of the value
 
@@ -67,27 +66,24 @@ form-text s v w start len e h = rw (e, le-leb (start + len) (length s) h)
 -- ---- a text's form
 
 module _ (s : List ℕ) (start len w : ℕ) (inside : start + len ≤ length s) where
-  part-length : length (range s start len) ≡ len
-  part-length = range-length s start len len (omega arith) inside
-
   part-zero : beforeZero (range s start len) 0 len ≡ beforeZero s start len
-  part-zero = before-same (range s start len) s 0 start len (λ i l. rw zero-add (getD-take len (drop start s) i 0 l ∙ getD-drop start s i 0))
+  part-zero = before-same (range s start len) s 0 start len (λ i l. rw zero-add (range-byte s start len i l))
 
   pub text-empty : len < 1 → none ≡ textForm w (range s start len)
   unfolding textForm
-  text-empty h = rw (part-length, lt-leb 1 len h)
+  text-empty h = rw (range-length s start len inside, lt-leb 1 len h)
 
   pub text-long : 1 ≤ len → w < len → none ≡ textForm w (range s start len)
   unfolding textForm
-  text-long h l = rw (part-length, le-leb 1 len h, lt-leb len w l)
+  text-long h l = rw (range-length s start len inside, le-leb 1 len h, lt-leb len w l)
 
   pub text-zero : 1 ≤ len → len ≤ w → beforeZero s start len < len → none ≡ textForm w (range s start len)
   unfolding textForm
-  text-zero h l z = rw (part-length, le-leb 1 len h, le-leb len w l, part-zero, ne-eqb (beforeZero s start len) len (omega arith))
+  text-zero h l z = rw (range-length s start len inside, le-leb 1 len h, le-leb len w l, part-zero, ne-eqb (beforeZero s start len) len (omega arith))
 
   pub text-fits : 1 ≤ len → len ≤ w → len ≤ beforeZero s start len → bytes (range s start len ++ replicate (w - len) 0) ≡ textForm w (range s start len)
   unfolding textForm
-  text-fits h l z = rw (part-length, le-leb 1 len h, le-leb len w l, part-zero, eq-eqb (beforeZero s start len) len (le-antisymm (before-most s start len) z))
+  text-fits h l z = rw (range-length s start len inside, le-leb 1 len h, le-leb len w l, part-zero, eq-eqb (beforeZero s start len) len (le-antisymm (before-most s start len) z))
 
 -- ---- the answer
 

@@ -1,17 +1,33 @@
--- Two ranges of bytes, compared a byte at a time. Assumes nothing.
+-- A range of bytes: its length, its bytes and its parts; and two ranges, compared a byte at a time. Assumes nothing.
 use Prim.Native.Nat.{ℕ, suc, _+_, _-_, _≤_, _<_}
-use mathlib.Core.Path.{_≡_, _∙_}
-use mathlib.Core.List.{List, [], _∷_}
+use mathlib.Core.Path.{_≡_, ap, _∙_}
+use mathlib.Core.List.{List, [], _∷_, _++_}
 use mathlib.Core.Bool.{cond}
 use native.Mathlib.Nat.{sub-zero, add-zero, sub-self}
 use native.Mathlib.Omega.{arith}
 use lib.Dec.{ltb}
-use lib.ListN.{length}
-use lib.Seq.{drop-cons}
+use lib.ListN.{length, take, drop, length-drop}
+use lib.Seq.{drop-cons, drop-drop, getD-drop, getD-take, length-take-le, take-add}
 use borrow.Author.Tests.{lt-ltb, le-ltb}
 use Rattle.words.specs.Numbers.{byte}
 use Rattle.words.specs.Order.{order, range}
 use Rattle.words.specs.declared.Order.the-variants.{Less, More}
+
+-- ---- one range
+
+-- a range has as many bytes as it is asked for, where they are there
+pub range-length : (s : List ℕ) (at n : ℕ) → at + n ≤ length s → length (range s at n) ≡ n
+range-length s at n h = length-take-le n (drop at s) (rw length-drop (omega arith))
+
+-- byte i of a range is byte i from its place
+pub range-byte : (s : List ℕ) (at n i : ℕ) → i < n → byte (range s at n) i ≡ byte s (at + i)
+range-byte s at n i h = getD-take n (drop at s) i 0 h ∙ getD-drop at s i 0
+
+-- a range of n + m bytes is one of n and, behind it, one of m
+pub range-join : (s : List ℕ) (at n m : ℕ) → range s at (n + m) ≡ range s at n ++ range s (at + n) m
+range-join s at n m = take-add n m (drop at s) ∙ ap (λ (l : List ℕ). range s at n ++ take m l) (drop-drop n at s)
+
+-- ---- two ranges
 
 -- what is left of the n bytes from p after i of them
 abbrev pub rest : List ℕ → ℕ → ℕ → ℕ → List ℕ

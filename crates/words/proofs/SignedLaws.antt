@@ -1,13 +1,15 @@
 -- The top bit complemented and read as a sign, each law once over what that bit counts for. Assumes nothing.
-use Prim.Native.Nat.{ℕ, zero, suc, _+_, _-_, _≤_, _<_}
+use Prim.Native.Nat.{ℕ, zero, suc, _+_, _-_, _^_, _≤_, _<_}
 use mathlib.Core.Path.{_≡_, refl, sym, ap, _∙_}
 use mathlib.Core.Bool.{Bool, true, false}
 use mathlib.Core.Logic.{_⊎_, inl, inr, ⊎-elim}
+use native.Mathlib.Nat.{pow-suc}
 use native.Mathlib.Omega.{arith}
+use lib.Arith.{lt-of-le-ne}
 use lib.Dec.{ltb}
 use lib.IntN.{pos, negsuc, _-ℤ_}
 use borrow.Author.Tests.{lt-ltb, le-ltb, le-leb, lt-leb, ltb-true, ltb-false}
-use Rattle.words.specs.Signed.{complemented, signed}
+use Rattle.words.specs.Signed.{half, complemented, signed}
 
 pub lt-or-ge : (n m : ℕ) → (n < m) ⊎ (m ≤ n)
 lt-or-ge n m = go (ltb n m) refl
@@ -15,6 +17,11 @@ lt-or-ge n m = go (ltb n m) refl
     go : (t : Bool) → ltb n m ≡ t → (n < m) ⊎ (m ≤ n)
     go true e = inl (ltb-true n m e)
     go false e = inr (ltb-false n m e)
+
+-- twice the top bit is all that w bytes can count
+pub half-twice : (w : ℕ) → 1 ≤ w → half w + half w ≡ 256 ^ w
+half-twice zero h = absurd (omega arith)
+half-twice (suc w) h = rw pow-suc (omega arith)
 
 module _ (top n : ℕ) where
   pub complemented-from : top ≤ n → complemented top n ≡ n - top
@@ -46,6 +53,21 @@ complemented-twice top n h =
     ⊎-elim
     (λ (l : n < top). rw (complemented-below top n l, complemented-from top (n + top) (omega arith)) (omega arith))
     (λ (l : top ≤ n). rw (complemented-from top n l, complemented-below top (n - top) (omega arith)) (omega arith))
+    (lt-or-ge n top)
+
+-- complemented, nothing but the top bit alone becomes 0, and nothing but 0 the top bit alone
+pub complemented-some : (top n : ℕ) → 0 < top → (n ≡ top → ⊥) → 0 < complemented top n
+complemented-some top n p h =
+    ⊎-elim
+    (λ (l : n < top). rw (complemented-below top n l) (omega arith))
+    (λ (l : top ≤ n). rw (complemented-from top n l) (let m : top < n = lt-of-le-ne l (λ e. h (sym e)) in omega arith))
+    (lt-or-ge n top)
+
+pub complemented-other : (top n : ℕ) → 0 < n → n < top + top → complemented top n ≡ top → ⊥
+complemented-other top n p h e =
+    ⊎-elim
+    (λ (l : n < top). let f = complemented-below top n l in omega arith)
+    (λ (l : top ≤ n). let f = complemented-from top n l in omega arith)
     (lt-or-ge n top)
 
 -- ---- the top bit complemented, then signed: the number less that bit

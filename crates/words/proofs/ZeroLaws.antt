@@ -1,16 +1,22 @@
--- Zero bytes: the bytes before the first zero, and a number whose bytes are all zero. Assumes nothing.
+-- Zero bytes: the bytes before the first zero, a number whose bytes are all zero, and zeros behind other bytes. Assumes nothing.
 use Prim.Native.Nat.{ℕ, zero, suc, _+_, _*_, _≤_, _<_}
 use mathlib.Core.Path.{_≡_, refl, sym, ap, _∙_}
 use mathlib.Core.Bool.{Bool, true, false, cond, _&&_}
-use mathlib.Core.List.{List}
+use mathlib.Core.List.{List, _++_, append-assoc}
 use mathlib.Core.Logic.{⊎-elim}
-use native.Mathlib.Nat.{add-zero, not-suc-le-zero, eq-or-lt-of-le, le-antisymm}
+use native.Mathlib.Nat.{add-zero, zero-add, not-suc-le-zero, eq-or-lt-of-le, le-antisymm}
 use native.Mathlib.Omega.{arith}
 use lib.Dec.{eqb, ltb}
-use borrow.Author.Tests.{ne-eqb, eqb-true, eqb-false, ltb-true, ltb-false}
+use lib.ListN.{length, replicate, length-replicate, getD-replicate, List·getD-append}
+use lib.Seq.{ext-getD, getD-append-add}
+use borrow.Author.Tests.{eq-eqb, ne-eqb, eqb-true, eqb-false, ltb-true, ltb-false}
 use Rattle.words.specs.Each.{each}
 use Rattle.words.specs.Numbers.{byte, big}
+use Rattle.words.specs.Order.{range}
 use Rattle.words.specs.Zeros.{allZero, beforeZero}
+use Rattle.words.proofs.EachLaws.{each-gives, each-takes}
+use Rattle.words.proofs.Ranges.{range-length, range-byte}
+use Rattle.words.proofs.SignedLaws.{lt-or-ge}
 
 -- the bytes before the first zero are no zeros, and the zero ends them
 pub before-nonzero : (t : List ℕ) (at m i : ℕ) → i < beforeZero t at m → byte t (at + i) ≡ 0 → ⊥
@@ -98,3 +104,45 @@ zero-number s at (suc w) = ap (λ (b : Bool). b && eqb (byte s (at + w)) 0) (zer
     go : (n b : ℕ) → (eqb n 0 && eqb b 0) ≡ eqb (n * 256 + b) 0
     go zero b = let e : 0 * 256 + b ≡ b = omega arith in rw e
     go (suc n) b = rw (ne-eqb (suc n) 0 (omega arith)) (sym (ne-eqb (suc n * 256 + b) 0 (omega arith)))
+
+-- ---- zeros as a list
+
+-- a range of bytes that are all zero is a list of zeros
+pub zero-range : (s : List ℕ) (at n : ℕ) → at + n ≤ length s → allZero s at n ≡ true → range s at n ≡ replicate n 0
+zero-range s at n h z =
+    let l = range-length s at n h in
+    ext-getD
+    0
+    (range s at n)
+    (replicate n 0)
+    (l ∙ sym (length-replicate n 0))
+    (λ i b. let k : i < n = omega arith in
+    range-byte s at n i k ∙ eqb-true (byte s (at + i)) 0 (each-gives (λ (j : ℕ). eqb (byte s (at + j)) 0) n z i k) ∙ sym (getD-replicate n i 0 0 k))
+
+module _ (s : List ℕ) (n : ℕ) (rest : List ℕ) where
+  front-byte : (i : ℕ) → i < length s → byte (s ++ replicate n 0 ++ rest) i ≡ byte s i
+  front-byte i h = rw append-assoc (List·getD-append s (replicate n 0 ++ rest) 0 i h)
+
+  zeros-byte : (i : ℕ) → i < n → byte (s ++ replicate n 0 ++ rest) (length s + i) ≡ 0
+  zeros-byte i h =
+      rw append-assoc
+      (getD-append-add s (replicate n 0 ++ rest) i 0 ∙ List·getD-append (replicate n 0) rest 0 i (rw length-replicate h) ∙ getD-replicate n i 0 0 h)
+
+  -- zeros behind other bytes are all zero
+  pub zeros-behind : allZero (s ++ replicate n 0 ++ rest) (length s) n ≡ true
+  zeros-behind =
+      each-takes
+      (λ (i : ℕ). eqb (byte (s ++ replicate n 0 ++ rest) (length s + i)) 0)
+      n
+      (λ i h. eq-eqb (byte (s ++ replicate n 0 ++ rest) (length s + i)) 0 (zeros-byte i h))
+
+  -- bytes in front of zeros that are no zeros themselves stand before the first zero
+  pub before-zeros : Nonzero s 0 (length s) → beforeZero (s ++ replicate n 0 ++ rest) 0 (length s + n) ≡ length s
+  before-zeros h =
+      ⊎-elim
+      (λ (l : 0 < n). before-is (s ++ replicate n 0 ++ rest) 0 (length s + n) (length s) (omega arith) others (rw zero-add (rw add-zero at (zeros-byte 0 l))))
+      (λ (l : n ≤ 0). let e : length s + n ≡ length s = omega arith in rw e (before-whole (s ++ replicate n 0 ++ rest) 0 (length s) others))
+      (lt-or-ge 0 n)
+    where
+      others : Nonzero (s ++ replicate n 0 ++ rest) 0 (length s)
+      others j l z = h j l (rw zero-add (sym (front-byte j l) ∙ rw zero-add at z))
