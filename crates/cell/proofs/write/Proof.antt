@@ -1,8 +1,12 @@
 -- `write` meets its contract: 13, 12, 14, 11 in that order, then the form. Assumes nothing.
 use borrow.Author.Needs.{needs}
-use mathlib.Core.Path.{sym, _∙_}
+use mathlib.Core.Path.{_≡_, sym, _∙_}
 use borrow.Author.Tests.{not-true, not-false}
+use mathlib.Core.Bool.{true, false}
+use Rattle.header.specs.Kinds.{kindOf, isBlob}
+use Rattle.header.specs.declared.kind.StoredKind.the-variants.{Kind}
 use Rattle.header.proofs.KindLaws.{kind-width}
+use Rattle.cell.specs.Writing.{suits}
 use Rattle.cell.specs.Values.{contentOf}
 use Rattle.cell.proofs.SuitLaws.{of-width, suits-lent}
 use Rattle.cell.proofs.WritingLaws.{write-unknown, write-blob, write-other, write-short, write-form}
@@ -19,31 +23,61 @@ enum-told : tie.Need-enum-told
 enum-told c = search needs
 
 returns : tie.Need-returns
-returns c = let v = c .before .before .before .before .before .args in write-unknown (v .code) (v .width) (contentOf (v .text .now) (v .value)) (v .buffer .now) (sym (c .before .before .of .ensures) ∙ c .enum-told .given .1)
+returns c =
+    let v = c .before .before .before .before .before .args in
+    write-unknown (v .code) (v .width) (contentOf (v .text .now) (v .value)) (v .buffer .now) (sym (c .before .before .of .ensures) ∙ c .enum-told .given .1)
+
+-- the kind of the code and the width
+known : (c : tie.After-known-told) → let v = c .before .before .before .before .before .before .args in kindOf (v .code) (v .width) ≡ Kind (c .before .kind .given .0 .0)
+known c = sym (c .before .before .before .of .ensures) ∙ c .before .kind .given .1
 
 is-blob-requires : tie.Need-is-blob-requires
 is-blob-requires c κs = search needs
 
 returns-2 : tie.Need-returns-2
-returns-2 c = let v = c .before .before .before .before .before .before .before .before .args in write-blob (v .code) (v .width) (contentOf (v .text .now) (v .value)) (v .buffer .now) (c .before .before .before .kind .given .0 .0) (sym (c .before .before .before .before .before .of .ensures) ∙ c .before .before .before .kind .given .1) (sym (c .before .is-blob .ensures) ∙ c .if1 .taken)
+returns-2 c =
+    let v = c .before .before .before .before .before .before .before .before .args in
+    write-blob (v .code) (v .width) (contentOf (v .text .now) (v .value)) (v .buffer .now) (c .before .before .before .kind .given .0 .0) (known (c .before .before)) (sym (c .before .is-blob .ensures) ∙ c .if1 .taken)
+
+-- it is no blob's
+plain : (c : tie.Else1) → isBlob (c .before .before .before .kind .given .0 .0) ≡ false
+plain c = sym (c .before .is-blob .ensures) ∙ c .if1 .left
 
 suits-requires : tie.Need-suits-requires
 suits-requires c κs = search needs
 
 returns-3 : tie.Need-returns-3
-returns-3 c = let v = c .before .before .before .before .before .before .before .before .before .before .args in write-other (v .code) (v .width) (contentOf (v .text .now) (v .value)) (v .buffer .now) (c .before .before .before .before .before .kind .given .0 .0) (sym (c .before .before .before .before .before .before .before .of .ensures) ∙ c .before .before .before .before .before .kind .given .1) (sym (c .before .before .before .is-blob .ensures) ∙ c .before .before .if1 .left) (sym (c .before .suits .ensures) ∙ not-true (c .before .suits .result) (c .if2 .taken))
+returns-3 c =
+    let v = c .before .before .before .before .before .before .before .before .before .before .args in
+    write-other (v .code) (v .width) (contentOf (v .text .now) (v .value)) (v .buffer .now) (c .before .before .before .before .before .kind .given .0 .0) (known (c .before .before .before .before)) (plain (c .before .before)) (sym (c .before .suits .ensures) ∙ not-true (c .before .suits .result) (c .if2 .taken))
+
+-- the value suits the kind
+suited : (c : tie.Else2) → let v = c .before .before .before .before .before .before .before .before .before .before .args in suits (contentOf (v .text .now) (v .value)) (c .before .before .before .before .before .kind .given .0 .0) ≡ true
+suited c = sym (c .before .suits .ensures) ∙ not-false (c .before .suits .result) (c .if2 .left)
 
 returns-4 : tie.Need-returns-4
-returns-4 c = let v = c .before .before .before .before .before .before .before .before .before .before .before .args in write-short (v .code) (v .width) (contentOf (v .text .now) (v .value)) (v .buffer .now) (c .before .before .before .before .before .before .kind .given .0 .0) (sym (c .before .before .before .before .before .before .before .before .of .ensures) ∙ c .before .before .before .before .before .before .kind .given .1) (sym (c .before .before .before .before .is-blob .ensures) ∙ c .before .before .before .if1 .left) (sym (c .before .before .suits .ensures) ∙ not-false (c .before .before .suits .result) (c .before .if2 .left)) (c .if3 .taken)
+returns-4 c =
+    let v = c .before .before .before .before .before .before .before .before .before .before .before .args in
+    write-short (v .code) (v .width) (contentOf (v .text .now) (v .value)) (v .buffer .now) (c .before .before .before .before .before .before .kind .given .0 .0) (known (c .before .before .before .before .before)) (plain (c .before .before .before)) (suited (c .before)) (c .if3 .taken)
 
 put-value-requires : tie.Need-put-value-requires
-put-value-requires c κs = let v = c .before .before .before .before .before .before .before .before .before .before .before .before .args in let f = sym (c .before .before .before .suits .ensures) ∙ not-false (c .before .before .before .suits .result) (c .before .before .if2 .left) in (c .before .if3 .left, of-width (contentOf (v .text .now) (v .value)) (c .before .before .before .before .before .before .before .kind .given .0 .0) (v .width) f (kind-width (v .code) (v .width) (c .before .before .before .before .before .before .before .kind .given .0 .0) (sym (c .before .before .before .before .before .before .before .before .before .of .ensures) ∙ c .before .before .before .before .before .before .before .kind .given .1)), suits-lent (v .text .now) (v .value) (c .before .before .before .before .before .before .before .kind .given .0 .0) f)
+put-value-requires c κs =
+    let v = c .before .before .before .before .before .before .before .before .before .before .before .before .args in
+    let kind = c .before .before .before .before .before .before .before .kind .given .0 .0 in
+    let f = suited (c .before .before) in (
+      c .before .if3 .left,
+      of-width (contentOf (v .text .now) (v .value)) kind (v .width) f (kind-width (v .code) (v .width) kind (known (c .before .before .before .before .before .before))),
+      suits-lent (v .text .now) (v .value) kind f,
+    )
 
 same-length : tie.Need-same-length
 same-length c = search needs
 
 returns-5 : tie.Need-returns-5
-returns-5 c = let v = c .before .before .before .before .before .before .before .before .before .before .before .before .before .before .before .args in c .before .before .put-value .ensures ∙ write-form (v .code) (v .width) (contentOf (v .text .now) (v .value)) (v .buffer .now) (c .before .before .before .before .before .before .before .before .before .before .kind .given .0 .0) (sym (c .before .before .before .before .before .before .before .before .before .before .before .before .of .ensures) ∙ c .before .before .before .before .before .before .before .before .before .before .kind .given .1) (sym (c .before .before .before .before .before .before .before .before .is-blob .ensures) ∙ c .before .before .before .before .before .before .before .if1 .left) (sym (c .before .before .before .before .before .before .suits .ensures) ∙ not-false (c .before .before .before .before .before .before .suits .result) (c .before .before .before .before .before .if2 .left)) (c .before .before .before .before .if3 .left)
+returns-5 c =
+    let v = c .before .before .before .before .before .before .before .before .before .before .before .before .before .before .before .args in
+    c .before .before .put-value .ensures
+    ∙ write-form (v .code) (v .width) (contentOf (v .text .now) (v .value)) (v .buffer .now) (c .before .before .before .before .before .before .before .before .before .before .kind .given .0 .0) (known (c .before .before .before .before .before .before .before .before .before)) (plain (c .before .before .before .before .before .before .before)) (suited (c .before .before .before .before .before)) (c .before .before .before .before .if3 .left)
 
 pub write-spec : {M : Type 1} → statement M
 write-spec =

@@ -34,7 +34,9 @@ all-zero-requires : tie.Need-all-zero-requires
 all-zero-requires c κs = search needs
 
 returns-2 : tie.Need-returns-2
-returns-2 c = let v = c .before .before .before .before .before .args in cell-blank (v .kind) (v .t .now) (v .at) (v .width) (sym (c .before .before .before .is-blob .ensures) ∙ c .before .before .if1 .left) (sym (c .before .all-zero .ensures) ∙ c .if2 .taken)
+returns-2 c =
+    let v = c .before .before .before .before .before .args in
+    cell-blank (v .kind) (v .t .now) (v .at) (v .width) (sym (c .before .before .before .is-blob .ensures) ∙ c .before .before .if1 .left) (sym (c .before .all-zero .ensures) ∙ c .if2 .taken)
 
 -- past the test of zeros the bytes are not all zero, and each of them is a byte
 zero : (c : tie.Else2) → let v = c .before .before .before .before .before .args in allZero (v .t .now) (v .at) (v .width) ≡ false
@@ -58,7 +60,9 @@ number-requires c κs = let w : c .before .before .before .before .before .befor
 
 date-of-requires : tie.Need-date-of-requires
 unfolding Permitted
-date-of-requires c κs = let v = c .before .before .before .before .before .before .before .before .args in number-below (v .t .now) (v .at) (v .width) 4 (bytes (c .before .before .before .before .before)) (c .number .result) (permitted (c .before .before .before .before .before .before .before .before) Kin.Date (c .before .enum-told2 .given .1)) (c .number .ensures)
+date-of-requires c κs =
+    let v = c .before .before .before .before .before .before .before .before .args in
+    number-below (v .t .now) (v .at) (v .width) 4 (bytes (c .before .before .before .before .before)) (c .number .result) (permitted (c .before .before .before .before .before .before .before .before) Kin.Date (c .before .enum-told2 .given .1)) (c .number .ensures)
 
 enum-told-3 : tie.Need-enum-told-3
 enum-told-3 c = search needs
@@ -69,7 +73,9 @@ number-requires-2 c κs = let w : c .before .before .before .before .before .bef
 
 short-of-requires : tie.Need-short-of-requires
 unfolding Permitted
-short-of-requires c κs = let v = c .before .before .before .before .before .before .before .before .args in number-below (v .t .now) (v .at) (v .width) 2 (bytes (c .before .before .before .before .before)) (c .number2 .result) (permitted (c .before .before .before .before .before .before .before .before) Kin.Short (c .before .enum-told3 .given .1)) (c .number2 .ensures)
+short-of-requires c κs =
+    let v = c .before .before .before .before .before .before .before .before .args in
+    number-below (v .t .now) (v .at) (v .width) 2 (bytes (c .before .before .before .before .before)) (c .number2 .result) (permitted (c .before .before .before .before .before .before .before .before) Kin.Short (c .before .enum-told3 .given .1)) (c .number2 .ensures)
 
 enum-told-4 : tie.Need-enum-told-4
 enum-told-4 c = search needs
@@ -80,7 +86,9 @@ number-requires-3 c κs = let w : c .before .before .before .before .before .bef
 
 long-of-requires : tie.Need-long-of-requires
 unfolding Permitted
-long-of-requires c κs = let v = c .before .before .before .before .before .before .before .before .args in number-below (v .t .now) (v .at) (v .width) 4 (bytes (c .before .before .before .before .before)) (c .number3 .result) (permitted (c .before .before .before .before .before .before .before .before) Kin.Long (c .before .enum-told4 .given .1)) (c .number3 .ensures)
+long-of-requires c κs =
+    let v = c .before .before .before .before .before .before .before .before .args in
+    number-below (v .t .now) (v .at) (v .width) 4 (bytes (c .before .before .before .before .before)) (c .number3 .result) (permitted (c .before .before .before .before .before .before .before .before) Kin.Long (c .before .enum-told4 .given .1)) (c .number3 .ensures)
 
 enum-told-5 : tie.Need-enum-told-5
 enum-told-5 c = search needs
@@ -106,22 +114,50 @@ enum-told-7 : tie.Need-enum-told-7
 enum-told-7 c = search needs
 
 returns-3 : tie.Need-returns-3
-returns-3 c = let v = c .before .before .before .before .before .before .before .before .args in c .text-at .ensures ∙ cell-text (v .t .now) (v .at) (v .width) (zero (c .before .before .before)) ∙ ap (λ (k : FieldKind). cellAt k (v .t .now) (v .at) (v .width)) (sym (c .before .enum-told .given .1))
+returns-3 c =
+    let v = c .before .before .before .before .before .before .before .before .args in
+    c .text-at .ensures ∙ cell-text (v .t .now) (v .at) (v .width) (zero (c .before .before .before))
+    ∙ ap (λ (k : FieldKind). cellAt k (v .t .now) (v .at) (v .width)) (sym (c .before .enum-told .given .1))
 
 returns-4 : tie.Need-returns-4
-returns-4 c = let v = c .before .before .before .before .before .before .before .before .before .args in c .date-of .ensures ∙ cell-date (v .t .now) (v .at) (v .width) (zero (c .before .before .before .before)) (permitted (c .before .before .before .before .before .before .before .before .before) Kin.Date (c .before .before .enum-told2 .given .1)) (c .before .number .result) (c .before .number .ensures) ∙ ap (λ (k : FieldKind). cellAt k (v .t .now) (v .at) (v .width)) (sym (c .before .before .enum-told2 .given .1))
+returns-4 c =
+    let v = c .before .before .before .before .before .before .before .before .before .args in
+    let n = c .before .number in
+    c .date-of .ensures
+    ∙ cell-date (v .t .now) (v .at) (v .width) (zero (c .before .before .before .before)) (permitted (c .before .before .before .before .before .before .before .before .before) Kin.Date (c .before .before .enum-told2 .given .1)) (n .result) (n .ensures)
+    ∙ ap (λ (k : FieldKind). cellAt k (v .t .now) (v .at) (v .width)) (sym (c .before .before .enum-told2 .given .1))
 
 returns-5 : tie.Need-returns-5
-returns-5 c = let v = c .before .before .before .before .before .before .before .before .before .args in ap {B = Cell} (λ (z : ℤ). Is (Val.Short z)) (toZ-ofZ w16 (c .short-of .result) (record { sfits = c .short-of .ok }) ∙ c .short-of .ensures) ∙ cell-short (v .t .now) (v .at) (v .width) (zero (c .before .before .before .before)) (permitted (c .before .before .before .before .before .before .before .before .before) Kin.Short (c .before .before .enum-told3 .given .1)) (c .before .number2 .result) (c .before .number2 .ensures) ∙ ap (λ (k : FieldKind). cellAt k (v .t .now) (v .at) (v .width)) (sym (c .before .before .enum-told3 .given .1))
+returns-5 c =
+    let v = c .before .before .before .before .before .before .before .before .before .args in
+    let n = c .before .number2 in
+    ap {B = Cell} (λ (z : ℤ). Is (Val.Short z)) (toZ-ofZ w16 (c .short-of .result) (record { sfits = c .short-of .ok }) ∙ c .short-of .ensures)
+    ∙ cell-short (v .t .now) (v .at) (v .width) (zero (c .before .before .before .before)) (permitted (c .before .before .before .before .before .before .before .before .before) Kin.Short (c .before .before .enum-told3 .given .1)) (n .result) (n .ensures)
+    ∙ ap (λ (k : FieldKind). cellAt k (v .t .now) (v .at) (v .width)) (sym (c .before .before .enum-told3 .given .1))
 
 returns-6 : tie.Need-returns-6
-returns-6 c = let v = c .before .before .before .before .before .before .before .before .before .args in ap {B = Cell} (λ (z : ℤ). Is (Val.Long z)) (toZ-ofZ w32 (c .long-of .result) (record { sfits = c .long-of .ok }) ∙ c .long-of .ensures) ∙ cell-long (v .t .now) (v .at) (v .width) (zero (c .before .before .before .before)) (permitted (c .before .before .before .before .before .before .before .before .before) Kin.Long (c .before .before .enum-told4 .given .1)) (c .before .number3 .result) (c .before .number3 .ensures) ∙ ap (λ (k : FieldKind). cellAt k (v .t .now) (v .at) (v .width)) (sym (c .before .before .enum-told4 .given .1))
+returns-6 c =
+    let v = c .before .before .before .before .before .before .before .before .before .args in
+    let n = c .before .number3 in
+    ap {B = Cell} (λ (z : ℤ). Is (Val.Long z)) (toZ-ofZ w32 (c .long-of .result) (record { sfits = c .long-of .ok }) ∙ c .long-of .ensures)
+    ∙ cell-long (v .t .now) (v .at) (v .width) (zero (c .before .before .before .before)) (permitted (c .before .before .before .before .before .before .before .before .before) Kin.Long (c .before .before .enum-told4 .given .1)) (n .result) (n .ensures)
+    ∙ ap (λ (k : FieldKind). cellAt k (v .t .now) (v .at) (v .width)) (sym (c .before .before .enum-told4 .given .1))
 
 returns-7 : tie.Need-returns-7
-returns-7 c = let v = c .before .before .before .before .before .before .before .before .before .args in c .number-of .ensures ∙ cell-number (v .t .now) (v .at) (v .width) (zero (c .before .before .before .before)) (permitted (c .before .before .before .before .before .before .before .before .before) Kin.Number (c .before .before .enum-told5 .given .1)) (c .before .number4 .result) (c .before .number4 .ensures) ∙ ap (λ (k : FieldKind). cellAt k (v .t .now) (v .at) (v .width)) (sym (c .before .before .enum-told5 .given .1))
+returns-7 c =
+    let v = c .before .before .before .before .before .before .before .before .before .args in
+    let n = c .before .number4 in
+    c .number-of .ensures
+    ∙ cell-number (v .t .now) (v .at) (v .width) (zero (c .before .before .before .before)) (permitted (c .before .before .before .before .before .before .before .before .before) Kin.Number (c .before .before .enum-told5 .given .1)) (n .result) (n .ensures)
+    ∙ ap (λ (k : FieldKind). cellAt k (v .t .now) (v .at) (v .width)) (sym (c .before .before .enum-told5 .given .1))
 
 returns-8 : tie.Need-returns-8
-returns-8 c = let v = c .before .before .before .before .before .before .before .before .before .args in c .logical-of .ensures ∙ cell-logical (v .t .now) (v .at) (v .width) (zero (c .before .before .before .before)) (c .before .number5 .result) (c .before .number5 .ensures) ∙ ap (λ (k : FieldKind). cellAt k (v .t .now) (v .at) (v .width)) (sym (c .before .before .enum-told6 .given .1))
+returns-8 c =
+    let v = c .before .before .before .before .before .before .before .before .before .args in
+    let n = c .before .number5 in
+    c .logical-of .ensures
+    ∙ cell-logical (v .t .now) (v .at) (v .width) (zero (c .before .before .before .before)) (n .result) (n .ensures)
+    ∙ ap (λ (k : FieldKind). cellAt k (v .t .now) (v .at) (v .width)) (sym (c .before .before .enum-told6 .given .1))
 
 returns-9 : tie.Need-returns-9
 unfolding isBlob

@@ -71,49 +71,81 @@ enum-known-value-6 : tie.Need-enum-known-value-6
 enum-known-value-6 c = search needs
 
 put-text-requires : tie.Need-put-text-requires
-put-text-requires c κs = (c .before .before .before .before .before .before .pre .0, lent (c .before .before .before .before .before .before) (c .before .before .value6 .given .0 .0) (c .before .before .value6 .given .0 .1 .0) (c .before .before .value6 .given .1))
+put-text-requires c κs = let q = c .before .before .value6 .given in (c .before .before .before .before .before .before .pre .0, lent (c .before .before .before .before .before .before) (q .0 .0) (q .0 .1 .0) (q .1))
 
 same-length : tie.Need-same-length
 same-length c = search needs
 
 returns : tie.Need-returns
-returns c = let v = c .before .before .before .before .before .before .before .before .args in c .before .before .put-coded .ensures ∙ ap (λ (f : Form). putForm (v .width) f (v .buffer .now)) (form-blank (v .text .now) (v .value) (v .width) (c .before .before .before .before .before .before .before .before .pre .1) (c .before .before .before .before .enum-told .given .1))
+returns c =
+    let v = c .before .before .before .before .before .before .before .before .args in
+    c .before .before .put-coded .ensures
+    ∙ ap (λ (f : Form). putForm (v .width) f (v .buffer .now)) (form-blank (v .text .now) (v .value) (v .width) (c .before .before .before .before .before .before .before .before .pre .1) (c .before .before .before .before .enum-told .given .1))
 
 same-length-2 : tie.Need-same-length-2
 same-length-2 c = search needs
 
 returns-2 : tie.Need-returns-2
-returns-2 c = let v = c .before .before .before .before .before .before .before .before .before .before .args in c .before .before .put-coded2 .ensures ∙ ap (λ (f : Form). putForm (v .width) f (v .buffer .now)) (form-short (v .text .now) (v .value) (v .width) (c .before .before .before .before .before .before .before .before .before .before .pre .1) (c .before .before .before .before .before .before .value .given .0 .0) (c .before .before .before .before .before .before .value .given .1) (c .before .before .before .short-form .result) (c .before .before .before .short-form .ensures ∙ ap (signedForm 2) (search needs)))
+returns-2 c =
+    let v = c .before .before .before .before .before .before .before .before .before .before .args in
+    let q = c .before .before .before .before .before .before .value .given in
+    let k = c .before .before .before .short-form in
+    c .before .before .put-coded2 .ensures
+    ∙ ap (λ (f : Form). putForm (v .width) f (v .buffer .now)) (form-short (v .text .now) (v .value) (v .width) (c .before .before .before .before .before .before .before .before .before .before .pre .1) (q .0 .0) (q .1) (k .result) (k .ensures ∙ ap (signedForm 2) (search needs)))
 
 same-length-3 : tie.Need-same-length-3
 same-length-3 c = search needs
 
 returns-3 : tie.Need-returns-3
-returns-3 c = let v = c .before .before .before .before .before .before .before .before .before .before .args in c .before .before .put-coded3 .ensures ∙ ap (λ (f : Form). putForm (v .width) f (v .buffer .now)) (form-long (v .text .now) (v .value) (v .width) (c .before .before .before .before .before .before .before .before .before .before .pre .1) (c .before .before .before .before .before .before .value2 .given .0 .0) (c .before .before .before .before .before .before .value2 .given .1) (c .before .before .before .long-form .result) (c .before .before .before .long-form .ensures ∙ ap (signedForm 4) (search needs)))
+returns-3 c =
+    let v = c .before .before .before .before .before .before .before .before .before .before .args in
+    let q = c .before .before .before .before .before .before .value2 .given in
+    let k = c .before .before .before .long-form in
+    c .before .before .put-coded3 .ensures
+    ∙ ap (λ (f : Form). putForm (v .width) f (v .buffer .now)) (form-long (v .text .now) (v .value) (v .width) (c .before .before .before .before .before .before .before .before .before .before .pre .1) (q .0 .0) (q .1) (k .result) (k .ensures ∙ ap (signedForm 4) (search needs)))
 
 same-length-4 : tie.Need-same-length-4
 same-length-4 c = search needs
 
 returns-4 : tie.Need-returns-4
-returns-4 c = let v = c .before .before .before .before .before .before .before .before .before .before .args in c .before .before .put-coded4 .ensures ∙ ap (λ (f : Form). putForm (v .width) f (v .buffer .now)) (form-date (v .text .now) (v .value) (v .width) (c .before .before .before .before .before .before .before .before .before .before .pre .1) (c .before .before .before .before .before .before .value3 .given .0 .0) (c .before .before .before .before .before .before .value3 .given .1) (c .before .before .before .date-form .result) (c .before .before .before .date-form .ensures))
+returns-4 c =
+    let v = c .before .before .before .before .before .before .before .before .before .before .args in
+    let q = c .before .before .before .before .before .before .value3 .given in
+    let k = c .before .before .before .date-form in
+    c .before .before .put-coded4 .ensures
+    ∙ ap (λ (f : Form). putForm (v .width) f (v .buffer .now)) (form-date (v .text .now) (v .value) (v .width) (c .before .before .before .before .before .before .before .before .before .before .pre .1) (q .0 .0) (q .1) (k .result) (k .ensures))
 
 same-length-5 : tie.Need-same-length-5
 same-length-5 c = search needs
 
 returns-5 : tie.Need-returns-5
-returns-5 c = let v = c .before .before .before .before .before .before .before .before .before .before .args in c .before .before .put-coded5 .ensures ∙ ap (λ (f : Form). putForm (v .width) f (v .buffer .now)) (form-number (v .text .now) (v .value) (v .width) (c .before .before .before .before .before .before .before .before .before .before .pre .1) (c .before .before .before .before .before .before .value4 .given .0 .0) (c .before .before .before .before .before .before .value4 .given .1) (c .before .before .before .number-form .result) (c .before .before .before .number-form .ensures))
+returns-5 c =
+    let v = c .before .before .before .before .before .before .before .before .before .before .args in
+    let q = c .before .before .before .before .before .before .value4 .given in
+    let k = c .before .before .before .number-form in
+    c .before .before .put-coded5 .ensures
+    ∙ ap (λ (f : Form). putForm (v .width) f (v .buffer .now)) (form-number (v .text .now) (v .value) (v .width) (c .before .before .before .before .before .before .before .before .before .before .pre .1) (q .0 .0) (q .1) (k .result) (k .ensures))
 
 same-length-6 : tie.Need-same-length-6
 same-length-6 c = search needs
 
 returns-6 : tie.Need-returns-6
-returns-6 c = let v = c .before .before .before .before .before .before .before .before .before .before .args in c .before .before .put-coded6 .ensures ∙ ap (λ (f : Form). putForm (v .width) f (v .buffer .now)) (form-logical (v .text .now) (v .value) (v .width) (c .before .before .before .before .before .before .before .before .before .before .pre .1) (c .before .before .before .before .before .before .value5 .given .0 .0) (c .before .before .before .before .before .before .value5 .given .1) (c .before .before .before .logical-form .result) (c .before .before .before .logical-form .ensures))
+returns-6 c =
+    let v = c .before .before .before .before .before .before .before .before .before .before .args in
+    let q = c .before .before .before .before .before .before .value5 .given in
+    let k = c .before .before .before .logical-form in
+    c .before .before .put-coded6 .ensures
+    ∙ ap (λ (f : Form). putForm (v .width) f (v .buffer .now)) (form-logical (v .text .now) (v .value) (v .width) (c .before .before .before .before .before .before .before .before .before .before .pre .1) (q .0 .0) (q .1) (k .result) (k .ensures))
 
 same-length-7 : tie.Need-same-length-7
 same-length-7 c = search needs
 
 returns-7 : tie.Need-returns-7
-returns-7 c = let v = c .before .before .before .before .before .before .before .before .before .args in let q = c .before .before .before .before .before .value6 .given in c .before .before .put-text .ensures ∙ ap (λ (f : Form). putForm (v .width) f (v .buffer .now)) (form-text (v .text .now) (v .value) (v .width) (q .0 .0) (q .0 .1 .0) (q .1) (lent (c .before .before .before .before .before .before .before .before .before) (q .0 .0) (q .0 .1 .0) (q .1)))
+returns-7 c =
+    let v = c .before .before .before .before .before .before .before .before .before .args in
+    let q = c .before .before .before .before .before .value6 .given in
+    c .before .before .put-text .ensures
+    ∙ ap (λ (f : Form). putForm (v .width) f (v .buffer .now)) (form-text (v .text .now) (v .value) (v .width) (q .0 .0) (q .0 .1 .0) (q .1) (lent (c .before .before .before .before .before .before .before .before .before) (q .0 .0) (q .0 .1 .0) (q .1)))
 
 pub put-value-spec : {M : Type 1} → statement M
 put-value-spec =
