@@ -29,9 +29,8 @@ use Rattle.blocks.specs.declared.count.Count.the-variants.{Records, Bad}
 use Rattle.blocks.proofs.ShapeLaws.{sound, shape-size, has-block, block-inside}
 use Rattle.blocks.proofs.CountLaws.{record-inside}
 use Rattle.cell.proofs.ReadingLaws.{no-cell}
-use Rattle.cell.specs.Values.{textOf, answerOf, contentOf}
+use Rattle.cell.specs.Values.{contentOf, answerOf, textOf, valuePart, partOf}
 use Rattle.cell.specs.Reading.{signedAt, doubleAt, textWith, dateCell, numberCell, logicalCell, isDate, valueAt, cellAt, placeCell, fieldCell, blockCell, cellOf}
-use Rattle.cell.specs.Steps.{valuePart, partOf}
 use Rattle.cell.specs.declared.value.Value.{Value}
 use Rattle.cell.specs.declared.value.Value.the-variants as Val
 use Rattle.cell.specs.declared.value.Cell.{Cell}

@@ -8,9 +8,6 @@ use Rattle.cell.specs.Values.{Content, nothing, blank, short, long, date
 use Rattle.cell.specs.Writing.{Form, none, bytes}
 use Rattle.cell.specs.declared.value.Value.{Value}
 use Rattle.cell.specs.declared.value.Value.the-variants as Val
-use Rattle.cell.specs.declared.value.Cell.{Cell}
-use Rattle.cell.specs.declared.value.Cell.the-variants as Cel
-use Rattle.cell.specs.declared.part.Part.{Part}
 use Rattle.cell.specs.declared.encode.Coded.{Coded}
 use Rattle.cell.specs.declared.encode.Coded.the-variants as Cod
 
@@ -39,20 +36,3 @@ Lent s (Val.Date d) = Unit {0}
 Lent s (Val.Number x) = Unit {0}
 Lent s (Val.Logical b) = Unit {0}
 Lent s (Val.Text start len) = start + len ≤ length s
-
--- which part of the table a text is
-abbrev pub noPart : Part
-noPart = record { start = 0; len = 0 }
-
-unfoldable pub valuePart : Value → Part
-valuePart Val.Blank = noPart
-valuePart (Val.Short z) = noPart
-valuePart (Val.Long z) = noPart
-valuePart (Val.Date d) = noPart
-valuePart (Val.Number x) = noPart
-valuePart (Val.Logical b) = noPart
-valuePart (Val.Text start len) = record { start = start; len = len }
-
-unfoldable pub partOf : Cell → Part
-partOf (Cel.Is v) = valuePart v
-partOf (Cel.Refused n) = noPart

@@ -11,6 +11,7 @@ use Rattle.cell.specs.declared.value.Value.{Value}
 use Rattle.cell.specs.declared.value.Value.the-variants as Val
 use Rattle.cell.specs.declared.value.Cell.{Cell}
 use Rattle.cell.specs.declared.value.Cell.the-variants as Cel
+use Rattle.cell.specs.declared.part.Part.{Part}
 
 -- a value; a text is its bytes
 pub data Content : Type 0 where
@@ -48,3 +49,26 @@ textOf (date d) = []
 textOf (number x) = []
 textOf (logical b) = []
 textOf (text bytes) = bytes
+
+-- ---- a text as the part of the lent bytes that it is
+
+-- no text: the empty part
+abbrev pub noPart : Part
+noPart = record { start = 0; len = 0 }
+
+unfoldable pub valuePart : Value → Part
+valuePart Val.Blank = noPart
+valuePart (Val.Short z) = noPart
+valuePart (Val.Long z) = noPart
+valuePart (Val.Date d) = noPart
+valuePart (Val.Number x) = noPart
+valuePart (Val.Logical b) = noPart
+valuePart (Val.Text start len) = record { start = start; len = len }
+
+unfoldable pub partOf : Cell → Part
+partOf (Cel.Is v) = valuePart v
+partOf (Cel.Refused n) = noPart
+
+-- the place in memory so many bytes behind another
+abbrev pub behind : ℕ × ℕ → ℕ → ℕ × ℕ
+behind place n = (place .0, n + place .1)

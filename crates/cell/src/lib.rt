@@ -9,8 +9,9 @@ mod value;
 pub use value::Cell;
 pub use value::Value;
 ghost use mathlib.Core.Path.{_≡_};
+ghost use denote.Ref.{ptr};
 ghost use Rattle.header.specs.Rules.{Accepted};
-ghost use Rattle.cell.specs.Values.{answerOf, contentOf, textOf};
+ghost use Rattle.cell.specs.Values.{answerOf, behind, contentOf, partOf, textOf};
 ghost use Rattle.cell.specs.Reading.{blockCell, cellOf};
 ghost use Rattle.cell.specs.Writing.{writeOf};
 use blocks::Count;
@@ -60,9 +61,9 @@ pub fn read_in(table: &[u8], h: Header, block: usize, place: usize, field: usize
     decode::cell_at(table, kind, at, width as usize)
 }
 
-// The text of a cell as the part of the table it is; empty where `read` gives no text.
+// The text of a cell as the part of the table it is, bytes and place; empty where `read` gives no text.
 pub fn text(table: &[u8], block: usize, place: usize, field: usize) -> &[u8]
-    ensures { λ r. ⌜ now r ≡ textOf (answerOf (now (table .entry)) (cellOf (now (table .entry)) block place field) .1) ⌝ }
+    ensures { λ r. ⌜ (now r ≡ textOf (answerOf (now (table .entry)) (cellOf (now (table .entry)) block place field) .1)) × (ptr r ≡ behind (ptr (table .entry)) (partOf (cellOf (now (table .entry)) block place field) .start)) ⌝ }
 {
     let part = part::text_part(read(table, block, place, field));
     let start = part.start;

@@ -1,7 +1,7 @@
 // Which part of the table the text of a cell is.
 // The module is private: its functions are helpers of `cell::text`.
 ghost use mathlib.Core.Path.{_≡_};
-ghost use Rattle.cell.specs.Steps.{noPart, partOf, valuePart};
+ghost use Rattle.cell.specs.Values.{noPart, partOf, valuePart};
 use crate::value::Cell;
 use crate::value::Value;
 

@@ -1,7 +1,8 @@
 -- `record_at` meets its contract. Assumes nothing.
 use borrow.Author.Needs.{needs}
 use native.Mathlib.Omega.{arith}
-use Prim.Native.Nat.{_-_}
+use mathlib.Core.Path.{ap}
+use Prim.Native.Nat.{ℕ, _+_, _-_, _*_}
 use Rattle.blocks.proofs.ShapeLaws.{words-product}
 use Rattle.blocks.proofs.record_at.Statement.{statement}
 use Rattle.blocks.proofs.record_at.Tie as tie
@@ -22,7 +23,7 @@ add-result-2 : tie.Need-add-result-2
 add-result-2 c = let v = c .before .before .args in omega (arith, c .before .block-at .ensures, words-product (v .i) (v .g .size) (search needs) (search needs), words-product (v .b - 1) (v .g .block) (search needs) (search needs))
 
 returns : tie.Need-returns
-returns c = search needs
+returns c = let v = c .before .before .args in ap (λ (a : ℕ). a + 6 + v .i * v .g .size) (c .before .block-at .ensures)
 
 pub record-at-spec : {M : Type 1} → statement M
 record-at-spec =

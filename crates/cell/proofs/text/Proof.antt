@@ -5,7 +5,7 @@ use mathlib.Core.Path.{_≡_, sym, ap, _∙_, subst}
 use Prim.Native.Nat.{ℕ, _+_, _-_, _≤_}
 use lib.ListN.{length, take, drop}
 use Rattle.words.specs.Order.{range}
-use Rattle.cell.specs.Steps.{partOf}
+use Rattle.cell.specs.Values.{partOf, behind}
 use Rattle.cell.specs.declared.part.Part.{Part}
 use Rattle.cell.proofs.PlaceLaws.{part-inside, part-is}
 use Rattle.cell.specs.Reading.{cellOf}
@@ -45,10 +45,12 @@ returns c =
     let x = cellOf (v .table .now) (v .block) (v .place) (v .field) in
     let r = c .before .before .text-part .result in
     let e : r ≡ partOf x = is (c .before) in
-    let l : r .start + r .len - r .start ≡ r .len = omega arith in
-    ap (λ (n : ℕ). take n (drop (r .start) (v .table .now))) l
-    ∙ ap (λ (q : Part). range (v .table .now) (q .start) (q .len)) e
-    ∙ part-is (v .table .now) x (part-inside (v .table .now) (v .block) (v .place) (v .field))
+    let l : r .start + r .len - r .start ≡ r .len = omega arith in (
+      ap (λ (n : ℕ). take n (drop (r .start) (v .table .now))) l
+          ∙ ap (λ (q : Part). range (v .table .now) (q .start) (q .len)) e
+          ∙ part-is (v .table .now) x (part-inside (v .table .now) (v .block) (v .place) (v .field)),
+      ap (λ (q : Part). behind (v .table .ptr) (q .start)) e,
+    )
 
 pub text-spec : {M : Type 1} → statement M
 text-spec =

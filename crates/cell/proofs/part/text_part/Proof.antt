@@ -1,6 +1,6 @@
 -- `text_part` meets its contract. Assumes nothing.
 use borrow.Author.Needs.{needs}
-use Rattle.cell.specs.Steps.{partOf}
+use Rattle.cell.specs.Values.{partOf}
 use Rattle.cell.proofs.part.text_part.Statement.{statement}
 use Rattle.cell.proofs.part.text_part.Tie as tie
 

@@ -1,6 +1,6 @@
 -- `value_part` meets its contract, case by case. Assumes nothing.
 use borrow.Author.Needs.{needs}
-use Rattle.cell.specs.Steps.{valuePart}
+use Rattle.cell.specs.Values.{valuePart}
 use Rattle.cell.proofs.part.value_part.Statement.{statement}
 use Rattle.cell.proofs.part.value_part.Tie as tie
 
