@@ -17,7 +17,7 @@ use Rattle.words.proofs.Ranges.{range-length, range-byte}
 use Rattle.words.proofs.SignedLaws.{lt-or-ge}
 use Rattle.header.specs.declared.kind.FieldKind.the-variants as Kin
 use Rattle.cell.specs.declared.value.Value.the-variants as Val
-use Rattle.cell.specs.declared.encode.Coded.the-variants as Cod
+use Rattle.cell.specs.declared.form.Coded.the-variants as Cod
 
 -- a part of so many bytes, without a sum
 pub part-is : (l start len : ℕ) → len ≤ l → leb start (l - len) ≡ leb (start + len) l

@@ -15,7 +15,7 @@ use Rattle.cell.specs.Writing.{codeOf, suits}
 use Rattle.cell.specs.Steps.{OfWidth, Lent}
 use Rattle.cell.specs.declared.value.Value.{Value}
 use Rattle.cell.specs.declared.value.Value.the-variants as Val
-use Rattle.cell.specs.declared.encode.Coded.the-variants as Cod
+use Rattle.cell.specs.declared.form.Coded.the-variants as Cod
 
 pub suits-text : (s : List ℕ) (start len : ℕ) (kind : FieldKind) → (leb (start + len) (length s) && eqb (codeOf kind) 0x01) ≡ suits (contentOf s (Val.Text start len)) kind
 unfolding contentOf suits

@@ -25,8 +25,8 @@ use Rattle.cell.specs.Writing.{none, bytes, signedForm, dateForm, number
 use Rattle.cell.specs.Steps.{codedForm, OfWidth}
 use Rattle.cell.specs.declared.value.Value.{Value}
 use Rattle.cell.specs.declared.value.Value.the-variants as Val
-use Rattle.cell.specs.declared.encode.Coded.{Coded}
-use Rattle.cell.specs.declared.encode.Coded.the-variants as Cod
+use Rattle.cell.specs.declared.form.Coded.{Coded}
+use Rattle.cell.specs.declared.form.Coded.the-variants as Cod
 
 -- ---- a number's form, by the case of the value
 

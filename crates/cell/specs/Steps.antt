@@ -8,8 +8,8 @@ use Rattle.cell.specs.Values.{Content, nothing, blank, short, long, date
 use Rattle.cell.specs.Writing.{Form, none, bytes}
 use Rattle.cell.specs.declared.value.Value.{Value}
 use Rattle.cell.specs.declared.value.Value.the-variants as Val
-use Rattle.cell.specs.declared.encode.Coded.{Coded}
-use Rattle.cell.specs.declared.encode.Coded.the-variants as Cod
+use Rattle.cell.specs.declared.form.Coded.{Coded}
+use Rattle.cell.specs.declared.form.Coded.the-variants as Cod
 
 -- the form of a number in w bytes
 unfoldable pub codedForm : ℕ → Coded → Form

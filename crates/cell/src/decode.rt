@@ -4,7 +4,7 @@ ghost use mathlib.Core.Path.{_≡_};
 ghost use Prim.Native.Nat.{_+_, _≤_, _<_};
 ghost use lib.Ieee.{binary64, ofBits};
 ghost use lib.ListN.{length};
-ghost use Rattle.words.specs.Signed.{complemented, signed};
+ghost use Rattle.words.specs.Signed.{complemented, half, signed};
 ghost use Rattle.words.specs.Zeros.{beforeZero};
 ghost use Rattle.header.specs.Kinds.{Permitted};
 ghost use Rattle.cell.specs.Reading.{cellAt, dateCell, logicalCell, numberCell, textWith};
@@ -18,7 +18,7 @@ use header::refusal;
 // A short of two bytes: the top bit complemented, then signed.
 fn short_of(n: u64) -> i16
     requires { ⌜ n < 65536 ⌝ }
-    ensures { λ r. ⌜ r ≡ signed 32768 (complemented 32768 n) ⌝ }
+    ensures { λ r. ⌜ r ≡ signed (half 2) (complemented (half 2) n) ⌝ }
 {
     (n as i64 - limits::SHORT_TOP) as i16
 }
@@ -26,14 +26,15 @@ fn short_of(n: u64) -> i16
 // A long of four bytes, in the same way.
 fn long_of(n: u64) -> i32
     requires { ⌜ n < 4294967296 ⌝ }
-    ensures { λ r. ⌜ r ≡ signed 2147483648 (complemented 2147483648 n) ⌝ }
+    ensures { λ r. ⌜ r ≡ signed (half 4) (complemented (half 4) n) ⌝ }
 {
     (n as i64 - limits::LONG_TOP) as i32
 }
 
+// A date: as a long, and a day of the calendar.
 fn date_of(n: u64) -> Cell
     requires { ⌜ n < 4294967296 ⌝ }
-    ensures { λ r. ⌜ r ≡ dateCell (signed 2147483648 (complemented 2147483648 n)) ⌝ }
+    ensures { λ r. ⌜ r ≡ dateCell (signed (half 4) (complemented (half 4) n)) ⌝ }
 {
     if n < limits::DATE_TOP {
         return Cell::Refused(refusal::NO_MEANING);
@@ -48,8 +49,9 @@ fn date_of(n: u64) -> Cell
     Cell::Is(Value::Date(day as u32))
 }
 
+// A number or currency: finite doubles only.
 fn number_of(n: u64) -> Cell
-    ensures { λ r. ⌜ r ≡ numberCell (ofBits binary64 (complemented 9223372036854775808 n)) ⌝ }
+    ensures { λ r. ⌜ r ≡ numberCell (ofBits binary64 (complemented (half 8) n)) ⌝ }
 {
     let bits = double::top_complemented(n);
     if !double::is_finite(bits) {
@@ -58,6 +60,7 @@ fn number_of(n: u64) -> Cell
     Cell::Is(Value::Number(f64::from_bits(bits)))
 }
 
+// A logical: two bytes have a meaning.
 fn logical_of(n: u64) -> Cell
     ensures { λ r. ⌜ r ≡ logicalCell n ⌝ }
 {

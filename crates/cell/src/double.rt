@@ -3,12 +3,12 @@
 ghost use mathlib.Core.Path.{_≡_};
 ghost use lib.Ieee.{binary64, ofBits};
 ghost use lib.Ieee.Scale.{finite};
-ghost use Rattle.words.specs.Signed.{complemented};
+ghost use Rattle.words.specs.Signed.{complemented, half};
 use crate::limits;
 
 // A number of eight bytes with its top bit complemented.
 pub fn top_complemented(n: u64) -> u64
-    ensures { λ r. ⌜ r ≡ complemented 9223372036854775808 n ⌝ }
+    ensures { λ r. ⌜ r ≡ complemented (half 8) n ⌝ }
 {
     if limits::NUMBER_TOP <= n {
         return n - limits::NUMBER_TOP;

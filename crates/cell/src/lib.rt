@@ -1,9 +1,11 @@
 // One cell: read by block, place and field; its text as the part of the table it is; one value written.
 mod decode;
 mod double;
-mod encode;
+mod form;
 mod limits;
 mod part;
+mod put;
+mod suit;
 mod value;
 
 pub use value::Cell;
@@ -33,9 +35,8 @@ pub fn read(table: &[u8], block: usize, place: usize, field: usize) -> Cell
     read_in(table, h, block, place, field)
 }
 
-// The same where the header was read before, so that many cells cost its rules once. A helper of the
-// crates above and no call of a user: whoever calls it has found this header of this table accepted.
-pub fn read_in(table: &[u8], h: Header, block: usize, place: usize, field: usize) -> Cell
+// The cell of a table whose header is accepted: what `read` answers once rules 1 to 7 are kept.
+fn read_in(table: &[u8], h: Header, block: usize, place: usize, field: usize) -> Cell
     requires { ⌜ Accepted (now table) h ⌝ }
     ensures { λ r. ⌜ r ≡ blockCell (now (table .entry)) h block place field ⌝ }
 {
@@ -83,11 +84,11 @@ pub fn write(code: u8, width: usize, value: Value, text: &[u8], buffer: &mut [u8
     if kind.is_blob() {
         return refusal::BLOB_CELL;
     }
-    if !encode::suits(kind, value, text) {
+    if !suit::suits(kind, value, text) {
         return refusal::BAD_ARGUMENT;
     }
     if buffer.len() < width {
         return refusal::SHORT_BUFFER;
     }
-    encode::put_value(value, width, text, buffer)
+    put::put_value(value, width, text, buffer)
 }

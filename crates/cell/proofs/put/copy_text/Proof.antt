@@ -7,8 +7,8 @@ use mathlib.Core.List.{_++_}
 use lib.ListN.{length, take, drop, replicate}
 use Rattle.words.specs.Order.{range}
 use Rattle.cell.proofs.CopyLaws.{padded-length, padded-byte, copy-length, copy-step, copy-end}
-use Rattle.cell.proofs.encode.copy_text.Statement.{statement}
-use Rattle.cell.proofs.encode.copy_text.Tie as tie
+use Rattle.cell.proofs.put.copy_text.Statement.{statement}
+use Rattle.cell.proofs.put.copy_text.Tie as tie
 
 abbrev Inv-loop : tie.InvT-loop
 Inv-loop buffer₀ width text start len i₀ buffer i = (i ≤ width) × (buffer ≡ take i (range text start len ++ replicate (width - len) 0) ++ drop i buffer₀)

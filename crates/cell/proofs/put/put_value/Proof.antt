@@ -8,8 +8,8 @@ use Rattle.cell.specs.Steps.{Lent}
 use Rattle.cell.specs.declared.value.Value.{Value}
 use Rattle.cell.specs.declared.value.Value.the-variants as Val
 use Rattle.cell.proofs.WritingLaws.{form-blank, form-short, form-long, form-date, form-number, form-logical, form-text}
-use Rattle.cell.proofs.encode.put_value.Statement.{statement}
-use Rattle.cell.proofs.encode.put_value.Tie as tie
+use Rattle.cell.proofs.put.put_value.Statement.{statement}
+use Rattle.cell.proofs.put.put_value.Tie as tie
 
 -- a text is a part of the bytes lent for it
 lent : (c : tie.Start) (start len : ℕ) → c .args .value ≡ Val.Text start len → start + len ≤ length (c .args .text .now)

@@ -5,8 +5,8 @@ use Prim.Native.Nat.{ℕ}
 use mathlib.Core.List.{List}
 use Rattle.cell.specs.Writing.{putForm}
 use Rattle.cell.specs.Steps.{codedForm}
-use Rattle.cell.proofs.encode.put_coded.Statement.{statement}
-use Rattle.cell.proofs.encode.put_coded.Tie as tie
+use Rattle.cell.proofs.put.put_coded.Statement.{statement}
+use Rattle.cell.proofs.put.put_coded.Tie as tie
 
 enum-known-coded : tie.Need-enum-known-coded
 enum-known-coded c = search needs

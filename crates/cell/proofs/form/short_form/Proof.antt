@@ -4,8 +4,8 @@ use lib.Dec.{lit≤}
 use mir.Syntax.{w16}
 use Rattle.cell.specs.Steps.{codedForm}
 use Rattle.cell.proofs.SignedCasts.{wide-fits, sum-fits, total, total-fits, form-none, form-is}
-use Rattle.cell.proofs.encode.short_form.Statement.{statement}
-use Rattle.cell.proofs.encode.short_form.Tie as tie
+use Rattle.cell.proofs.form.short_form.Statement.{statement}
+use Rattle.cell.proofs.form.short_form.Tie as tie
 
 returns : tie.Need-returns
 unfolding codedForm

@@ -1,8 +1,8 @@
 -- `padded` meets its contract. Assumes nothing.
 use borrow.Author.Needs.{needs}
 use borrow.Author.Tests.{lt-ltb, le-ltb}
-use Rattle.cell.proofs.encode.padded.Statement.{statement}
-use Rattle.cell.proofs.encode.padded.Tie as tie
+use Rattle.cell.proofs.put.padded.Statement.{statement}
+use Rattle.cell.proofs.put.padded.Tie as tie
 
 add-result : tie.Need-add-result
 add-result c = search needs

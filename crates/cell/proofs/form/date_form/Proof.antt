@@ -3,8 +3,8 @@ use borrow.Author.Needs.{needs}
 use borrow.Author.Tests.{le-leb, lt-leb}
 use Rattle.cell.specs.Writing.{dateForm}
 use Rattle.cell.specs.Steps.{codedForm}
-use Rattle.cell.proofs.encode.date_form.Statement.{statement}
-use Rattle.cell.proofs.encode.date_form.Tie as tie
+use Rattle.cell.proofs.form.date_form.Statement.{statement}
+use Rattle.cell.proofs.form.date_form.Tie as tie
 
 returns : tie.Need-returns
 unfolding codedForm dateForm

@@ -1,7 +1,7 @@
 -- `logical_form` meets its contract. Assumes nothing.
 use Rattle.cell.specs.Steps.{codedForm}
-use Rattle.cell.proofs.encode.logical_form.Statement.{statement}
-use Rattle.cell.proofs.encode.logical_form.Tie as tie
+use Rattle.cell.proofs.form.logical_form.Statement.{statement}
+use Rattle.cell.proofs.form.logical_form.Tie as tie
 
 returns : tie.Need-returns
 unfolding codedForm

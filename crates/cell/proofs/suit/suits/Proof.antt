@@ -3,8 +3,8 @@ use borrow.Author.Needs.{needs}
 use Rattle.cell.specs.Values.{contentOf}
 use Rattle.cell.specs.Writing.{suits}
 use Rattle.cell.proofs.SuitLaws.{suits-text}
-use Rattle.cell.proofs.encode.suits.Statement.{statement}
-use Rattle.cell.proofs.encode.suits.Tie as tie
+use Rattle.cell.proofs.suit.suits.Statement.{statement}
+use Rattle.cell.proofs.suit.suits.Tie as tie
 
 code-of-requires : tie.Need-code-of-requires
 code-of-requires c κs = search needs

@@ -7,8 +7,8 @@ use Rattle.words.specs.Numbers.{digits}
 use Rattle.cell.specs.Writing.{Form, bytes}
 use Rattle.cell.specs.Steps.{codedForm}
 use Rattle.cell.proofs.DoubleLaws.{nan-form, not-nan, infinite-form, zero-form, number-is}
-use Rattle.cell.proofs.encode.number_form.Statement.{statement}
-use Rattle.cell.proofs.encode.number_form.Tie as tie
+use Rattle.cell.proofs.form.number_form.Statement.{statement}
+use Rattle.cell.proofs.form.number_form.Tie as tie
 
 returns : tie.Need-returns
 unfolding codedForm

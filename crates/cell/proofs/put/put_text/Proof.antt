@@ -7,8 +7,8 @@ use Rattle.words.specs.Zeros.{beforeZero}
 use mathlib.Core.List.{List}
 use Rattle.cell.specs.Writing.{Form, putForm}
 use Rattle.cell.proofs.WritingLaws.{text-empty, text-long, text-zero, text-fits}
-use Rattle.cell.proofs.encode.put_text.Statement.{statement}
-use Rattle.cell.proofs.encode.put_text.Tie as tie
+use Rattle.cell.proofs.put.put_text.Statement.{statement}
+use Rattle.cell.proofs.put.put_text.Tie as tie
 
 returns : tie.Need-returns
 unfolding putForm

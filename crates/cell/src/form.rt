@@ -1,0 +1,77 @@
+// The number that a cell stores for a value, kind by kind.
+// The module is private: its functions are helpers of `cell::write`.
+ghost use mathlib.Core.Path.{_≡_};
+ghost use mathlib.Core.Bool.{cond};
+ghost use Rattle.words.specs.Numbers.{digits};
+ghost use Rattle.cell.specs.Writing.{bytes, dateForm, numberForm, signedForm};
+ghost use Rattle.cell.specs.Steps.{codedForm};
+use crate::double;
+use crate::limits;
+
+// The number that a cell stores for a value, where there is one.
+pub enum Coded {
+    Number(u64),
+    None,
+}
+
+// A short: the top bit added. The least short would be the blank.
+pub fn short_form(z: i16) -> Coded
+    ensures { λ r. ⌜ codedForm 2 r ≡ signedForm 2 z ⌝ }
+{
+    if z == limits::LEAST_SHORT {
+        return Coded::None;
+    }
+    Coded::Number((z as i64 + limits::SHORT_TOP) as u64)
+}
+
+// A long, in the same way.
+pub fn long_form(z: i32) -> Coded
+    ensures { λ r. ⌜ codedForm 4 r ≡ signedForm 4 z ⌝ }
+{
+    if z == limits::LEAST_LONG {
+        return Coded::None;
+    }
+    Coded::Number((z as i64 + limits::LONG_TOP) as u64)
+}
+
+// A date: a day of the calendar, stored as a long.
+pub fn date_form(day: u32) -> Coded
+    ensures { λ r. ⌜ codedForm 4 r ≡ dateForm 4 day ⌝ }
+{
+    let d = day as u64;
+    if d < limits::LEAST_DATE {
+        return Coded::None;
+    }
+    if limits::MOST_DATE < d {
+        return Coded::None;
+    }
+    Coded::Number(d + limits::DATE_TOP)
+}
+
+// A double: finite and not negative zero. A not-a-number is what differs from itself; only of the others
+// are the bits asked for.
+pub fn number_form(x: f64) -> Coded
+    ensures { λ r. ⌜ codedForm 8 r ≡ numberForm 8 x ⌝ }
+{
+    if x != x {
+        return Coded::None;
+    }
+    let bits = f64::to_bits(x);
+    if !double::is_finite(bits) {
+        return Coded::None;
+    }
+    if bits == limits::NEGATIVE_ZERO {
+        return Coded::None;
+    }
+    Coded::Number(double::top_complemented(bits))
+}
+
+// A logical always has a form.
+pub fn logical_form(b: bool) -> Coded
+    ensures { λ r. ⌜ codedForm 1 r ≡ bytes (digits 1 (cond b 0x81 0x80)) ⌝ }
+{
+    if b {
+        return Coded::Number(limits::TRUE);
+    }
+    Coded::Number(limits::FALSE)
+}
