@@ -1,5 +1,6 @@
 pub mod CopyLaws
 pub mod DoubleLaws
+pub mod Finite
 pub mod Inverse
 pub mod PlaceLaws
 pub mod ReadingLaws

@@ -94,7 +94,7 @@ module _ (kind : FieldKind) (s : List ℕ) (at w : ℕ) where
   cell-blank e z = rw (e, z)
 
   -- bytes that are not all zero mean what their kind says
-  cell-value : allZero s at w ≡ false → valueAt kind s at w ≡ cellAt kind s at w
+  pub cell-value : allZero s at w ≡ false → valueAt kind s at w ≡ cellAt kind s at w
   unfolding cellAt
   cell-value z = rw (z, and-false (not (isBlob kind)))
 

@@ -127,7 +127,7 @@ abbrev Refusal : List ℕ → ℕ × List ℕ → Type 0
 Refusal buffer answer = (n : ℕ) × (answer ≡ (n, buffer)) × (n ≡ 0 → ⊥)
 
 -- 0, and a form in front of the rest of the buffer
-abbrev Written : ℕ → ℕ → Content → List ℕ → ℕ × List ℕ → Type 0
+abbrev pub Written : ℕ → ℕ → Content → List ℕ → ℕ × List ℕ → Type 0
 Written code w c buffer answer =
     (kind : FieldKind) × (s : List ℕ) × (kindOf code w ≡ Kind kind) × (isBlob kind ≡ false) × (suits c kind ≡ true) × (w ≤ length buffer) × (formOf w c ≡ bytes s)
     × (answer ≡ (0, s ++ drop w buffer))
@@ -163,7 +163,8 @@ refused-unchanged code w c buffer n out h e =
     (λ (r : Written code w c buffer (writeOf code w c buffer)). absurd (e (ap (λ (a : ℕ × List ℕ). a .0) (sym h ∙ r .7))))
     (outcome code w c buffer)
 
-wrote : (code w : ℕ) (c : Content) (buffer out : List ℕ) → writeOf code w c buffer ≡ (0, out) → Written code w c buffer (0, out)
+-- what an answer of 0 tells
+pub wrote : (code w : ℕ) (c : Content) (buffer out : List ℕ) → writeOf code w c buffer ≡ (0, out) → Written code w c buffer (0, out)
 wrote code w c buffer out h =
     ⊎-elim
     (λ (r : Refusal buffer (writeOf code w c buffer)). absurd (r .2 (ap (λ (a : ℕ × List ℕ). a .0) (sym (r .1) ∙ h))))
@@ -209,7 +210,7 @@ not-blob Kin.Logical s at w v h = refl
 not-blob Kin.Blob s at w v h = no-cell h
 
 -- a cell that is read is of no blob, and is blank or has the value of its kind
-read-as : (kind : FieldKind) (s : List ℕ) (at w : ℕ) (v : Value) → cellAt kind s at w ≡ Is v
+pub read-as : (kind : FieldKind) (s : List ℕ) (at w : ℕ) (v : Value) → cellAt kind s at w ≡ Is v
     → (isBlob kind ≡ false) × (((allZero s at w ≡ true) × (v ≡ Val.Blank)) ⊎ ((allZero s at w ≡ false) × (valueAt kind s at w ≡ Is v)))
 unfolding cellAt
 read-as kind s at w v h = go (isBlob kind) (allZero s at w) refl refl h

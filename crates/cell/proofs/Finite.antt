@@ -1,0 +1,69 @@
+-- No number that isn't finite gets through: none is read, none is written, and a cell that stores one is refused with 11.
+-- Assumes nothing.
+use mathlib.Core.Path.{_≡_, refl, sym, ap, _∙_}
+use mathlib.Core.Bool.{Bool, true, false, cond, not, _&&_}
+use mathlib.Core.List.{List}
+use mathlib.Core.Logic.{⊎-elim}
+use Prim.Native.Nat.{ℕ}
+use native.Mathlib.Omega.{arith}
+use lib.Ieee.{Float}
+use lib.Ieee.Scale.{finite}
+use Rattle.words.specs.Numbers.{big, digits}
+use Rattle.words.specs.Signed.{half, complemented}
+use Rattle.words.specs.Zeros.{allZero, beforeZero}
+use Rattle.words.proofs.Conjunctions.{both}
+use Rattle.header.specs.declared.kind.FieldKind.{FieldKind}
+use Rattle.header.specs.declared.kind.FieldKind.the-variants as Kin
+use Rattle.cell.specs.Values.{number}
+use Rattle.cell.specs.Reading.{signedAt, doubleAt, numberCell, valueAt, cellAt, cellOf}
+use Rattle.cell.specs.Writing.{none, bytes, minusZero, numberForm, formOf, writeOf}
+use Rattle.cell.specs.declared.value.Value.the-variants as Val
+use Rattle.cell.specs.declared.value.Cell.the-variants.{Is, Refused}
+use Rattle.cell.proofs.ReadingLaws.{no-cell, cell-value}
+use Rattle.cell.proofs.PlaceLaws.{stands}
+use Rattle.cell.proofs.Inverse.{no-form, read-date, read-number, read-logical, read-text}
+use Rattle.cell.proofs.RoundTrip.{read-as, wrote}
+
+module _ (x : Float) where
+  -- by the kind: the other kinds read as other cases
+  value-finite : (kind : FieldKind) (s : List ℕ) (at w : ℕ) → valueAt kind s at w ≡ Is (Val.Number x) → finite x ≡ true
+  unfolding valueAt
+  value-finite Kin.Text s at w h = let q = read-text s at w (beforeZero s at w) (Val.Number x) h .0 in let z : _≡_ {A = ℕ} 0 1 = cc in absurd (omega arith)
+  value-finite Kin.Date s at w h = let q = read-date (signedAt s at w) (Val.Number x) h .1 in let z : _≡_ {A = ℕ} 0 1 = cc in absurd (omega arith)
+  value-finite Kin.Short s at w h = let z : _≡_ {A = ℕ} 0 1 = cc in absurd (omega arith)
+  value-finite Kin.Long s at w h = let z : _≡_ {A = ℕ} 0 1 = cc in absurd (omega arith)
+  value-finite Kin.Number s at w h =
+      let q = read-number (doubleAt s at w) (Val.Number x) h in
+      let e : x ≡ doubleAt s at w = let k = q .0 in cc in
+      ap finite e ∙ q .1
+  value-finite Kin.Logical s at w h = let q = read-logical (big s at w) (Val.Number x) h .1 in let z : _≡_ {A = ℕ} 0 1 = cc in absurd (omega arith)
+  value-finite Kin.Blob s at w h = no-cell h
+
+  cell-finite : (kind : FieldKind) (s : List ℕ) (at w : ℕ) → cellAt kind s at w ≡ Is (Val.Number x) → finite x ≡ true
+  cell-finite kind s at w h =
+      ⊎-elim
+      (λ (c : (allZero s at w ≡ true) × (Val.Number x ≡ Val.Blank)). let e = c .1 in let z : _≡_ {A = ℕ} 0 1 = cc in absurd (omega arith))
+      (λ (c : (allZero s at w ≡ false) × (valueAt kind s at w ≡ Is (Val.Number x))). value-finite kind s at w (c .1))
+      (read-as kind s at w (Val.Number x) h .1)
+
+  -- a number that is read is finite
+  pub read-finite : (t : List ℕ) (b p f : ℕ) → cellOf t b p f ≡ Is (Val.Number x) → finite x ≡ true
+  read-finite t b p f h = let s = stands t b p f (Val.Number x) h in cell-finite (s .kind) t (s .at) (s .width) (s .means)
+
+  form-finite : (w : ℕ) (s : List ℕ) → numberForm w x ≡ bytes s → finite x ≡ true
+  unfolding numberForm
+  form-finite w s h = go (finite x && not (minusZero x)) refl h
+    where
+      go : (t : Bool) → (finite x && not (minusZero x)) ≡ t → cond t (bytes (digits w (complemented (half w) (lib.Ieee.toBits lib.Ieee.binary64 x)))) none ≡ bytes s → finite x ≡ true
+      go true e k = both {a = finite x} {b = not (minusZero x)} e .0
+      go false e k = no-form k
+
+  -- a number that is written is finite
+  pub written-finite : (code w : ℕ) (buffer out : List ℕ) → writeOf code w (number x) buffer ≡ (0, out) → finite x ≡ true
+  unfolding formOf
+  written-finite code w buffer out h = let r = wrote code w (number x) buffer out h in form-finite w (r .1) (r .6)
+
+-- a number cell that is not blank and stores no finite number is refused with 11
+pub infinite-refused : (s : List ℕ) (at w : ℕ) → allZero s at w ≡ false → finite (doubleAt s at w) ≡ false → cellAt Kin.Number s at w ≡ Refused 11
+unfolding valueAt numberCell
+infinite-refused s at w z f = sym (cell-value Kin.Number s at w z) ∙ rw f
