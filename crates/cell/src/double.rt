@@ -20,5 +20,5 @@ pub fn top_complemented(n: u64) -> u64
 pub fn is_finite(bits: u64) -> bool
     ensures { λ r. ⌜ r ≡ finite (ofBits binary64 bits) ⌝ }
 {
-    bits % limits::SIGN < limits::INFINITE
+    bits % limits::NUMBER_TOP < limits::INFINITE
 }

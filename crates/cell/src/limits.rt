@@ -20,9 +20,7 @@ pub const LEAST_DATE: u64 = 36160;
 
 pub const MOST_DATE: u64 = 3652059;
 
-// A double's sign, and the bits of an infinity: without the sign, a pattern from there on is not finite.
-pub const SIGN: u64 = 0x8000_0000_0000_0000;
-
+// The bits of an infinity: without the sign, which is the top bit, a pattern from there on is not finite.
 pub const INFINITE: u64 = 0x7ff0_0000_0000_0000;
 
 pub const FALSE: u64 = 0x80;
