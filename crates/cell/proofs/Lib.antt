@@ -6,6 +6,6 @@ pub mod PlaceLaws
 pub mod ReadingLaws
 pub mod RoundTrip
 pub mod SignedCasts
-pub mod SuitLaws
+pub mod ValueKinds
 pub mod Vectors
 pub mod WritingLaws

@@ -31,13 +31,13 @@ use Rattle.header.specs.Header.{headerOf}
 use Rattle.header.proofs.KindLaws.{kind-width}
 use Rattle.cell.specs.Values.{Content, nothing, blank, short, long, date, number, logical, text, contentOf, answerOf}
 use Rattle.cell.specs.Reading.{isDate, signedAt, doubleAt, valueAt, cellAt, cellOf}
-use Rattle.cell.specs.Writing.{Form, none, bytes, minusZero, signedForm, dateForm, numberForm, formOf, suits, putForm, putValue, writeKind, writeStored, writeOf}
+use Rattle.cell.specs.Writing.{Form, none, bytes, minusZero, signedForm, dateForm, numberForm, formOf, ofKind, putForm, putValue, writeKind, writeStored, writeOf}
 use Rattle.cell.specs.declared.value.Value.{Value}
 use Rattle.cell.specs.declared.value.Value.the-variants as Val
 use Rattle.cell.specs.declared.value.Cell.the-variants.{Is}
 use Rattle.cell.proofs.PlaceLaws.{stands}
 use Rattle.cell.proofs.ReadingLaws.{no-cell}
-use Rattle.cell.proofs.SuitLaws.{same-kind}
+use Rattle.cell.proofs.ValueKinds.{same-kind}
 use Rattle.cell.proofs.WritingLaws.{write-form}
 use Rattle.cell.proofs.Inverse.{no-form, Stored, signed-form, signed-means, read-date, date-means, read-number, number-form, number-means, read-logical, logical-means, text-means, text-not-blank, text-reads, read-text, text-part, text-form}
 
@@ -88,9 +88,9 @@ stored-reads kind w s c rest b (n, p, l, e, m) h =
     rw (b, zero-number (s ++ rest) 0 w, ne-eqb (big (s ++ rest) 0 w) 0 (omega arith)) (h (s ++ rest) (rw q m))
 
 -- the form of a value of the cell's kind reads as the value, whatever stands behind it
-pub form-reads : (kind : FieldKind) (w : ℕ) (c : Content) (s rest : List ℕ) → Permitted kind w → isBlob kind ≡ false → Held c → suits c kind ≡ true → formOf w c ≡ bytes s
+pub form-reads : (kind : FieldKind) (w : ℕ) (c : Content) (s rest : List ℕ) → Permitted kind w → isBlob kind ≡ false → Held c → ofKind c kind ≡ true → formOf w c ≡ bytes s
     → answerOf (s ++ rest) (cellAt kind (s ++ rest) 0 w) ≡ (0, c)
-unfolding formOf suits Permitted isBlob valueAt cellAt answerOf contentOf
+unfolding formOf ofKind Permitted isBlob valueAt cellAt answerOf contentOf
 form-reads kind w nothing s rest p b h u f = no-form f
 form-reads kind w blank s rest p b h u f =
     let e : s ≡ replicate w 0 = cc in rw (e, b, zeros-behind [] w rest)
@@ -129,14 +129,14 @@ Refusal buffer answer = (n : ℕ) × (answer ≡ (n, buffer)) × (n ≡ 0 → �
 -- 0, and a form in front of the rest of the buffer
 abbrev pub Written : ℕ → ℕ → Content → List ℕ → ℕ × List ℕ → Type 0
 Written code w c buffer answer =
-    (kind : FieldKind) × (s : List ℕ) × (kindOf code w ≡ Kind kind) × (isBlob kind ≡ false) × (suits c kind ≡ true) × (w ≤ length buffer) × (formOf w c ≡ bytes s)
+    (kind : FieldKind) × (s : List ℕ) × (kindOf code w ≡ Kind kind) × (isBlob kind ≡ false) × (ofKind c kind ≡ true) × (w ≤ length buffer) × (formOf w c ≡ bytes s)
     × (answer ≡ (0, s ++ drop w buffer))
 
 outcome : (code w : ℕ) (c : Content) (buffer : List ℕ) → Refusal buffer (writeOf code w c buffer) ⊎ Written code w c buffer (writeOf code w c buffer)
 unfolding writeOf writeStored writeKind putValue putForm
 outcome code w c buffer = by (kindOf code w) refl
   where
-    go : (kind : FieldKind) → kindOf code w ≡ Kind kind → (b u l : Bool) (f : Form) → isBlob kind ≡ b → suits c kind ≡ u → leb w (length buffer) ≡ l → formOf w c ≡ f
+    go : (kind : FieldKind) → kindOf code w ≡ Kind kind → (b u l : Bool) (f : Form) → isBlob kind ≡ b → ofKind c kind ≡ u → leb w (length buffer) ≡ l → formOf w c ≡ f
         → (let answer : ℕ × List ℕ = cond b (blobCell, buffer) (cond u (cond l (putForm w f buffer) (shortBuffer, buffer)) (badArgument, buffer)) in Refusal buffer answer ⊎ Written code w c buffer answer)
     go kind k true u l f p q r e = inl (blobCell, refl, omega arith)
     go kind k false false l f p q r e = inl (badArgument, refl, omega arith)
@@ -146,11 +146,11 @@ outcome code w c buffer = by (kindOf code w) refl
 
     by : (stored : StoredKind) → kindOf code w ≡ stored → Refusal buffer (writeStored stored w c buffer) ⊎ Written code w c buffer (writeStored stored w c buffer)
     by Unknown k = inl (badArgument, refl, omega arith)
-    by (Kind kind) k = go kind k (isBlob kind) (suits c kind) (leb w (length buffer)) (formOf w c) refl refl refl refl
+    by (Kind kind) k = go kind k (isBlob kind) (ofKind c kind) (leb w (length buffer)) (formOf w c) refl refl refl refl
 
 -- the form of a value of the cell's kind is what is written, where the buffer has room
 pub write-is : (code : ℕ) (kind : FieldKind) (w : ℕ) (c : Content) (s buffer : List ℕ)
-    → kindOf code w ≡ Kind kind → isBlob kind ≡ false → suits c kind ≡ true → w ≤ length buffer → formOf w c ≡ bytes s
+    → kindOf code w ≡ Kind kind → isBlob kind ≡ false → ofKind c kind ≡ true → w ≤ length buffer → formOf w c ≡ bytes s
     → writeOf code w c buffer ≡ (0, s ++ drop w buffer)
 unfolding putForm
 write-is code kind w c s buffer k b u room f = sym (write-form code w c buffer kind k b u room) ∙ rw f
@@ -239,8 +239,8 @@ module _ (s : List ℕ) (at w : ℕ) (b : Bytes s) (room : at + w ≤ length s) 
   some z = let n : big s at w ≡ 0 → ⊥ = eqb-false (big s at w) 0 (sym (zero-number s at w) ∙ z) in omega arith
 
   value-forms : (kind : FieldKind) (v : Value) → Permitted kind w → allZero s at w ≡ false → valueAt kind s at w ≡ Is v
-      → (suits (contentOf s v) kind ≡ true) × (formOf w (contentOf s v) ≡ bytes (range s at w))
-  unfolding valueAt Permitted suits formOf contentOf
+      → (ofKind (contentOf s v) kind ≡ true) × (formOf w (contentOf s v) ≡ bytes (range s at w))
+  unfolding valueAt Permitted ofKind formOf contentOf
   value-forms Kin.Text v p z h =
       let q = read-text s at w (beforeZero s at w) v h in
       let e : contentOf s v ≡ text (range s at (beforeZero s at w)) = ap (contentOf s) (q .0) ∙ text-part s at w room in
@@ -267,7 +267,7 @@ module _ (s : List ℕ) (at w : ℕ) (b : Bytes s) (room : at + w ≤ length s) 
 pub read-then-write : (code : ℕ) (kind : FieldKind) (w : ℕ) (s : List ℕ) (at : ℕ) (v : Value) (buffer : List ℕ)
     → kindOf code w ≡ Kind kind → Bytes s → at + w ≤ length s → cellAt kind s at w ≡ Is v → w ≤ length buffer
     → writeOf code w (contentOf s v) buffer ≡ (0, range s at w ++ drop w buffer)
-unfolding suits formOf contentOf
+unfolding ofKind formOf contentOf
 read-then-write code kind w s at v buffer k b room h fit =
     let r = read-as kind s at w v h in
     ⊎-elim

@@ -15,7 +15,7 @@ use Rattle.header.specs.declared.kind.FieldKind.the-variants as Kin
 use Rattle.header.specs.declared.kind.StoredKind.the-variants.{Kind}
 use Rattle.cell.specs.Values.{Content, nothing, blank, short, date, number, contentOf, answerOf}
 use Rattle.cell.specs.Reading.{dateCell, numberCell, logicalCell, valueAt, cellAt}
-use Rattle.cell.specs.Writing.{minusZero, signedForm, dateForm, numberForm, formOf, suits, putForm, putValue, writeKind, writeStored, writeOf}
+use Rattle.cell.specs.Writing.{minusZero, signedForm, dateForm, numberForm, formOf, ofKind, putForm, putValue, writeKind, writeStored, writeOf}
 
 -- a kind, a code of it, the bytes, what they read as, and whether that is written so too
 abbrev pub Row : Type 0
@@ -48,5 +48,5 @@ pub cells-hold :
     (map (λ (r : Row). kindOf (r .1) (length (r .2))) cells ≡ map (λ (r : Row). Kind (r .0)) cells)
     × (map (λ (r : Row). answerOf (r .2) (cellAt (r .0) (r .2) 0 (length (r .2)))) cells ≡ map (λ (r : Row). r .3) cells)
     × (map (λ (r : Row). writeOf (r .1) (length (r .2)) (r .3 .1) (replicate (length (r .2)) 0)) (bothWays cells) ≡ map (λ (r : Row). (0, r .2)) (bothWays cells))
-unfolding each big digits complemented signed kinds permit kindIn kindOf isBlob contentOf answerOf dateCell numberCell logicalCell valueAt cellAt ofBits toBits minusZero signedForm dateForm numberForm formOf suits putForm putValue writeKind writeStored writeOf
+unfolding each big digits complemented signed kinds permit kindIn kindOf isBlob contentOf answerOf dateCell numberCell logicalCell valueAt cellAt ofBits toBits minusZero signedForm dateForm numberForm formOf ofKind putForm putValue writeKind writeStored writeOf
 cells-hold = (refl, refl, refl)

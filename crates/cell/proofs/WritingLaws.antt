@@ -21,7 +21,7 @@ use Rattle.header.specs.declared.kind.StoredKind.the-variants.{Kind, Unknown}
 use Rattle.header.specs.Kinds.{kindOf, isBlob}
 use Rattle.header.specs.Refusals.{blobCell, badArgument, shortBuffer}
 use Rattle.cell.specs.Values.{Content, short, long, date, number, logical, contentOf}
-use Rattle.cell.specs.Writing.{none, bytes, signedForm, dateForm, numberForm, textForm, formOf, suits, putForm, putValue, writeKind, writeStored, writeOf}
+use Rattle.cell.specs.Writing.{none, bytes, signedForm, dateForm, numberForm, textForm, formOf, ofKind, putForm, putValue, writeKind, writeStored, writeOf}
 use Rattle.cell.specs.Steps.{codedForm, OfWidth}
 use Rattle.cell.specs.declared.value.Value.{Value}
 use Rattle.cell.specs.declared.value.Value.the-variants as Val
@@ -98,14 +98,14 @@ module _ (code w : ℕ) (c : Content) (buffer : List ℕ) where
     write-blob b = rw (e, b)
 
     module _ (plain : isBlob kind ≡ false) where
-      pub write-other : suits c kind ≡ false → (badArgument, buffer) ≡ writeOf code w c buffer
+      pub write-other : ofKind c kind ≡ false → (badArgument, buffer) ≡ writeOf code w c buffer
       unfolding writeOf writeStored writeKind
       write-other f = rw (e, plain, f)
 
-      pub write-short : suits c kind ≡ true → length buffer < w → (shortBuffer, buffer) ≡ writeOf code w c buffer
+      pub write-short : ofKind c kind ≡ true → length buffer < w → (shortBuffer, buffer) ≡ writeOf code w c buffer
       unfolding writeOf writeStored writeKind putValue
       write-short f h = rw (e, plain, f, lt-leb w (length buffer) h)
 
-      pub write-form : suits c kind ≡ true → w ≤ length buffer → putForm w (formOf w c) buffer ≡ writeOf code w c buffer
+      pub write-form : ofKind c kind ≡ true → w ≤ length buffer → putForm w (formOf w c) buffer ≡ writeOf code w c buffer
       unfolding writeOf writeStored writeKind putValue
       write-form f h = rw (e, plain, f, le-leb w (length buffer) h)

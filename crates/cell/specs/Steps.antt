@@ -28,11 +28,11 @@ OfWidth (logical b) w = w ≡ 1
 OfWidth (text s) w = Unit {0}
 
 -- a text is a part of the bytes lent for it
-unfoldable pub Lent : List ℕ → Value → Type 0
-Lent s Val.Blank = Unit {0}
-Lent s (Val.Short z) = Unit {0}
-Lent s (Val.Long z) = Unit {0}
-Lent s (Val.Date d) = Unit {0}
-Lent s (Val.Number x) = Unit {0}
-Lent s (Val.Logical b) = Unit {0}
-Lent s (Val.Text start len) = start + len ≤ length s
+unfoldable pub TextInside : List ℕ → Value → Type 0
+TextInside s Val.Blank = Unit {0}
+TextInside s (Val.Short z) = Unit {0}
+TextInside s (Val.Long z) = Unit {0}
+TextInside s (Val.Date d) = Unit {0}
+TextInside s (Val.Number x) = Unit {0}
+TextInside s (Val.Logical b) = Unit {0}
+TextInside s (Val.Text start len) = start + len ≤ length s

@@ -74,16 +74,16 @@ codeOf Kin.Number = 0x06
 codeOf Kin.Logical = 0x09
 codeOf Kin.Blob = 0x0C
 
--- whether a value is of a kind; blank suits every kind
-unfoldable pub suits : Content → FieldKind → Bool
-suits nothing kind = false
-suits blank kind = true
-suits (short z) kind = eqb (codeOf kind) 0x03
-suits (long z) kind = eqb (codeOf kind) 0x04
-suits (date d) kind = eqb (codeOf kind) 0x02
-suits (number x) kind = eqb (codeOf kind) 0x06
-suits (logical b) kind = eqb (codeOf kind) 0x09
-suits (text s) kind = eqb (codeOf kind) 0x01
+-- whether a value is of a kind; blank ofKind every kind
+unfoldable pub ofKind : Content → FieldKind → Bool
+ofKind nothing kind = false
+ofKind blank kind = true
+ofKind (short z) kind = eqb (codeOf kind) 0x03
+ofKind (long z) kind = eqb (codeOf kind) 0x04
+ofKind (date d) kind = eqb (codeOf kind) 0x02
+ofKind (number x) kind = eqb (codeOf kind) 0x06
+ofKind (logical b) kind = eqb (codeOf kind) 0x09
+ofKind (text s) kind = eqb (codeOf kind) 0x01
 
 -- 11 for no stored form; else 0, and the form in the first bytes
 unfoldable pub putForm : ℕ → Form → List ℕ → ℕ × List ℕ
@@ -96,7 +96,7 @@ putValue w c buffer = cond (leb w (length buffer)) (putForm w (formOf w c) buffe
 
 -- 12 for a blob, whatever the value; 13 for a value of another kind
 unfoldable pub writeKind : FieldKind → ℕ → Content → List ℕ → ℕ × List ℕ
-writeKind kind w c buffer = cond (isBlob kind) (blobCell, buffer) (cond (suits c kind) (putValue w c buffer) (badArgument, buffer))
+writeKind kind w c buffer = cond (isBlob kind) (blobCell, buffer) (cond (ofKind c kind) (putValue w c buffer) (badArgument, buffer))
 
 -- 13 for a bad code or width
 unfoldable pub writeStored : StoredKind → ℕ → Content → List ℕ → ℕ × List ℕ

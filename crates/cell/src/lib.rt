@@ -2,10 +2,10 @@
 mod decode;
 mod double;
 mod form;
+mod kinds;
 mod limits;
 mod part;
 mod put;
-mod suit;
 mod value;
 
 pub use value::Cell;
@@ -84,7 +84,7 @@ pub fn write(code: u8, width: usize, value: Value, text: &[u8], buffer: &mut [u8
     if kind.is_blob() {
         return refusal::BLOB_CELL;
     }
-    if !suit::suits(kind, value, text) {
+    if !kinds::is_of_kind(kind, value, text) {
         return refusal::BAD_ARGUMENT;
     }
     if buffer.len() < width {

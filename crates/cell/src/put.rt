@@ -10,7 +10,7 @@ ghost use Rattle.words.specs.Numbers.{byte};
 ghost use Rattle.words.specs.Order.{range};
 ghost use Rattle.cell.specs.Values.{contentOf};
 ghost use Rattle.cell.specs.Writing.{formOf, putForm, textForm};
-ghost use Rattle.cell.specs.Steps.{Lent, OfWidth, codedForm};
+ghost use Rattle.cell.specs.Steps.{TextInside, OfWidth, codedForm};
 use crate::form;
 use crate::form::Coded;
 use crate::value::Value;
@@ -71,7 +71,7 @@ fn put_text(buffer: &mut [u8], width: usize, text: &[u8], start: usize, len: usi
 
 // Writes a value of the width that its kind has, where it has a stored form.
 pub fn put_value(value: Value, width: usize, text: &[u8], buffer: &mut [u8]) -> u8
-    requires { ⌜ (width ≤ length (now buffer)) × OfWidth (contentOf (now text) value) width × Lent (now text) value ⌝ }
+    requires { ⌜ (width ≤ length (now buffer)) × OfWidth (contentOf (now text) value) width × TextInside (now text) value ⌝ }
     ensures { λ r. ⌜ (r, now (buffer .exit)) ≡ putForm width (formOf width (contentOf (now (text .entry)) value)) (now (buffer .entry)) ⌝ }
 {
     match value {

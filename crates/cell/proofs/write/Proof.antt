@@ -6,9 +6,9 @@ use mathlib.Core.Bool.{true, false}
 use Rattle.header.specs.Kinds.{kindOf, isBlob}
 use Rattle.header.specs.declared.kind.StoredKind.the-variants.{Kind}
 use Rattle.header.proofs.KindLaws.{kind-width}
-use Rattle.cell.specs.Writing.{suits}
+use Rattle.cell.specs.Writing.{ofKind}
 use Rattle.cell.specs.Values.{contentOf}
-use Rattle.cell.proofs.SuitLaws.{of-width, suits-lent}
+use Rattle.cell.proofs.ValueKinds.{of-width, of-kind-inside}
 use Rattle.cell.proofs.WritingLaws.{write-unknown, write-blob, write-other, write-short, write-form}
 use Rattle.cell.proofs.write.Statement.{statement}
 use Rattle.cell.proofs.write.Tie as tie
@@ -43,17 +43,17 @@ returns-2 c =
 plain : (c : tie.Else1) → isBlob (c .before .before .before .kind .given .0 .0) ≡ false
 plain c = sym (c .before .is-blob .ensures) ∙ c .if1 .left
 
-suits-requires : tie.Need-suits-requires
-suits-requires c κs = search needs
+is-of-kind-requires : tie.Need-is-of-kind-requires
+is-of-kind-requires c κs = search needs
 
 returns-3 : tie.Need-returns-3
 returns-3 c =
     let v = c .before .before .before .before .before .before .before .before .before .before .args in
-    write-other (v .code) (v .width) (contentOf (v .text .now) (v .value)) (v .buffer .now) (c .before .before .before .before .before .kind .given .0 .0) (known (c .before .before .before .before)) (plain (c .before .before)) (sym (c .before .suits .ensures) ∙ not-true (c .before .suits .result) (c .if2 .taken))
+    write-other (v .code) (v .width) (contentOf (v .text .now) (v .value)) (v .buffer .now) (c .before .before .before .before .before .kind .given .0 .0) (known (c .before .before .before .before)) (plain (c .before .before)) (sym (c .before .is-of-kind .ensures) ∙ not-true (c .before .is-of-kind .result) (c .if2 .taken))
 
--- the value suits the kind
-suited : (c : tie.Else2) → let v = c .before .before .before .before .before .before .before .before .before .before .args in suits (contentOf (v .text .now) (v .value)) (c .before .before .before .before .before .kind .given .0 .0) ≡ true
-suited c = sym (c .before .suits .ensures) ∙ not-false (c .before .suits .result) (c .if2 .left)
+-- the value ofKind the kind
+suited : (c : tie.Else2) → let v = c .before .before .before .before .before .before .before .before .before .before .args in ofKind (contentOf (v .text .now) (v .value)) (c .before .before .before .before .before .kind .given .0 .0) ≡ true
+suited c = sym (c .before .is-of-kind .ensures) ∙ not-false (c .before .is-of-kind .result) (c .if2 .left)
 
 returns-4 : tie.Need-returns-4
 returns-4 c =
@@ -67,7 +67,7 @@ put-value-requires c κs =
     let f = suited (c .before .before) in (
       c .before .if3 .left,
       of-width (contentOf (v .text .now) (v .value)) kind (v .width) f (kind-width (v .code) (v .width) kind (known (c .before .before .before .before .before .before))),
-      suits-lent (v .text .now) (v .value) kind f,
+      of-kind-inside (v .text .now) (v .value) kind f,
     )
 
 same-length : tie.Need-same-length
@@ -89,7 +89,7 @@ write-spec =
     returns
     is-blob-requires
     returns-2
-    suits-requires
+    is-of-kind-requires
     returns-3
     returns-4
     put-value-requires

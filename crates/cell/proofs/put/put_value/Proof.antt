@@ -4,7 +4,7 @@ use mathlib.Core.Path.{_≡_, ap, _∙_, subst}
 use Prim.Native.Nat.{ℕ, _+_, _-_, _≤_}
 use lib.ListN.{length}
 use Rattle.cell.specs.Writing.{Form, putForm, signedForm}
-use Rattle.cell.specs.Steps.{Lent}
+use Rattle.cell.specs.Steps.{TextInside}
 use Rattle.cell.specs.declared.value.Value.{Value}
 use Rattle.cell.specs.declared.value.Value.the-variants as Val
 use Rattle.cell.proofs.WritingLaws.{form-blank, form-short, form-long, form-date, form-number, form-logical, form-text}
@@ -13,8 +13,8 @@ use Rattle.cell.proofs.put.put_value.Tie as tie
 
 -- a text is a part of the bytes lent for it
 lent : (c : tie.Start) (start len : ℕ) → c .args .value ≡ Val.Text start len → start + len ≤ length (c .args .text .now)
-unfolding Lent
-lent c start len e = subst (λ (v : Value). Lent (c .args .text .now) v) e (c .pre .2)
+unfolding TextInside
+lent c start len e = subst (λ (v : Value). TextInside (c .args .text .now) v) e (c .pre .2)
 
 enum-told : tie.Need-enum-told
 enum-told c = search needs

@@ -5,7 +5,7 @@ ghost use Prim.Native.Nat.{_+_};
 ghost use lib.Dec.{leb};
 ghost use lib.ListN.{length};
 ghost use Rattle.cell.specs.Values.{contentOf};
-ghost use Rattle.cell.specs.Writing.{codeOf, suits};
+ghost use Rattle.cell.specs.Writing.{codeOf, ofKind};
 use crate::value::Value;
 use header::FieldKind;
 
@@ -35,8 +35,8 @@ fn is_part(s: &[u8], start: usize, len: usize) -> bool
 }
 
 // Whether a value is of a kind; a text must be a part of the bytes lent for it.
-pub fn suits(kind: FieldKind, value: Value, text: &[u8]) -> bool
-    ensures { λ r. ⌜ r ≡ suits (contentOf (now (text .entry)) value) kind ⌝ }
+pub fn is_of_kind(kind: FieldKind, value: Value, text: &[u8]) -> bool
+    ensures { λ r. ⌜ r ≡ ofKind (contentOf (now (text .entry)) value) kind ⌝ }
 {
     let code = code_of(kind);
     match value {

@@ -6,8 +6,8 @@ use Prim.Native.Nat.{_+_}
 use lib.ListN.{length}
 use borrow.Author.Tests.{lt-leb}
 use Rattle.cell.proofs.CopyLaws.{part-is}
-use Rattle.cell.proofs.suit.is_part.Statement.{statement}
-use Rattle.cell.proofs.suit.is_part.Tie as tie
+use Rattle.cell.proofs.kinds.is_part.Statement.{statement}
+use Rattle.cell.proofs.kinds.is_part.Tie as tie
 
 returns : tie.Need-returns
 returns c = let v = c .before .args in sym (lt-leb (v .start + v .len) (length (v .s .now)) (omega (arith, c .if1 .taken)))

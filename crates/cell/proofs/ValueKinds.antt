@@ -11,17 +11,17 @@ use Rattle.header.specs.declared.kind.FieldKind.{FieldKind}
 use Rattle.header.specs.declared.kind.FieldKind.the-variants as Kin
 use Rattle.header.specs.Kinds.{Permitted}
 use Rattle.cell.specs.Values.{Content, nothing, blank, short, long, date, number, logical, text, contentOf}
-use Rattle.cell.specs.Writing.{codeOf, suits}
-use Rattle.cell.specs.Steps.{OfWidth, Lent}
+use Rattle.cell.specs.Writing.{codeOf, ofKind}
+use Rattle.cell.specs.Steps.{OfWidth, TextInside}
 use Rattle.cell.specs.declared.value.Value.{Value}
 use Rattle.cell.specs.declared.value.Value.the-variants as Val
 use Rattle.cell.specs.declared.form.Coded.the-variants as Cod
 
-pub suits-text : (s : List ℕ) (start len : ℕ) (kind : FieldKind) → (leb (start + len) (length s) && eqb (codeOf kind) 0x01) ≡ suits (contentOf s (Val.Text start len)) kind
-unfolding contentOf suits
-suits-text s start len kind = go (leb (start + len) (length s))
+pub of-kind-text : (s : List ℕ) (start len : ℕ) (kind : FieldKind) → (leb (start + len) (length s) && eqb (codeOf kind) 0x01) ≡ ofKind (contentOf s (Val.Text start len)) kind
+unfolding contentOf ofKind
+of-kind-text s start len kind = go (leb (start + len) (length s))
   where
-    go : (b : Bool) → (b && eqb (codeOf kind) 0x01) ≡ suits (cond b (text (range s start len)) nothing) kind
+    go : (b : Bool) → (b && eqb (codeOf kind) 0x01) ≡ ofKind (cond b (text (range s start len)) nothing) kind
     go true = refl
     go false = refl
 
@@ -53,8 +53,8 @@ permitted : (kind other : FieldKind) (w : ℕ) → eqb (codeOf kind) (codeOf oth
 permitted kind other w e p = subst (λ (k : FieldKind). Permitted k w) (same-kind kind other e) p
 
 -- a value of a kind has its width
-pub of-width : (c : Content) (kind : FieldKind) (w : ℕ) → suits c kind ≡ true → Permitted kind w → OfWidth c w
-unfolding suits OfWidth Permitted
+pub of-width : (c : Content) (kind : FieldKind) (w : ℕ) → ofKind c kind ≡ true → Permitted kind w → OfWidth c w
+unfolding ofKind OfWidth Permitted
 of-width nothing kind w e p = tt
 of-width blank kind w e p = tt
 of-width (short z) kind w e p = permitted kind Kin.Short w e p
@@ -64,14 +64,14 @@ of-width (number x) kind w e p = permitted kind Kin.Number w e p
 of-width (logical b) kind w e p = permitted kind Kin.Logical w e p
 of-width (text s) kind w e p = tt
 
--- a text that suits is a part of the lent bytes
-pub suits-lent : (s : List ℕ) (v : Value) (kind : FieldKind) → suits (contentOf s v) kind ≡ true → Lent s v
-unfolding Lent
-suits-lent s Val.Blank kind e = tt
-suits-lent s (Val.Short z) kind e = tt
-suits-lent s (Val.Long z) kind e = tt
-suits-lent s (Val.Date d) kind e = tt
-suits-lent s (Val.Number x) kind e = tt
-suits-lent s (Val.Logical b) kind e = tt
-suits-lent s (Val.Text start len) kind e =
-    leb-true (start + len) (length s) (and-eq-true-iff (leb (start + len) (length s)) (eqb (codeOf kind) 0x01) .0 (suits-text s start len kind ∙ e) .0)
+-- a text that ofKind is a part of the lent bytes
+pub of-kind-inside : (s : List ℕ) (v : Value) (kind : FieldKind) → ofKind (contentOf s v) kind ≡ true → TextInside s v
+unfolding TextInside
+of-kind-inside s Val.Blank kind e = tt
+of-kind-inside s (Val.Short z) kind e = tt
+of-kind-inside s (Val.Long z) kind e = tt
+of-kind-inside s (Val.Date d) kind e = tt
+of-kind-inside s (Val.Number x) kind e = tt
+of-kind-inside s (Val.Logical b) kind e = tt
+of-kind-inside s (Val.Text start len) kind e =
+    leb-true (start + len) (length s) (and-eq-true-iff (leb (start + len) (length s)) (eqb (codeOf kind) 0x01) .0 (of-kind-text s start len kind ∙ e) .0)
