@@ -1,7 +1,8 @@
 -- The count rule: what each answer says, and that the records counted are inside the block. Assumes nothing.
 use Prim.Native.Nat.{ℕ, suc, _+_, _-_, _*_, _/_, _%_, _≤_, _<_}
 use mathlib.Core.Path.{_≡_, refl}
-use mathlib.Core.Bool.{Bool, true, false, cond, _&&_, and-eq-true-iff}
+use mathlib.Core.Bool.{Bool, true, false, cond, _&&_}
+use Rattle.words.proofs.Conjunctions.{both}
 use mathlib.Core.List.{List}
 use native.Mathlib.Nat.{mul-le-mul-right, mod-add-div', add-mul}
 use native.Mathlib.Omega.{arith}
@@ -53,7 +54,7 @@ count-most block size (pos m) n h e = go (eqb (m % size) 0 && leb (m + size) (bl
   where
     go : (b : Bool) → (eqb (m % size) 0 && leb (m + size) (block - 6)) ≡ b → cond b (Records (m / size + 1)) Bad ≡ Records n → 6 + n * size ≤ block
     go true f k =
-        let p = and-eq-true-iff (eqb (m % size) 0) (leb (m + size) (block - 6)) .0 f in
+        let p = both {a = eqb (m % size) 0} {b = leb (m + size) (block - 6)} f in
         let z : m / size + 1 ≡ n = cc in
         let r : m % size ≡ 0 = eqb-true (m % size) 0 (p .0) in
         let d : m % size + m / size * size ≡ m = mod-add-div' m size in

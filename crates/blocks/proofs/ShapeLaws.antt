@@ -1,7 +1,8 @@
 -- Blocks and records stand inside the file. Assumes nothing.
 use Prim.Native.Nat.{ℕ, zero, suc, _+_, _-_, _*_, _≤_, _<_}
 use mathlib.Core.Path.{_≡_, refl}
-use mathlib.Core.Bool.{true, and-eq-true-iff}
+use mathlib.Core.Bool.{true}
+use Rattle.words.proofs.Conjunctions.{both}
 use mathlib.Core.List.{List}
 use native.Mathlib.Nat.{mul-le-mul-right, mul-le-mul, not-suc-le-zero}
 use native.Mathlib.Numerals.{sub-one}
@@ -26,10 +27,10 @@ shape-size h = refl
 
 pub has-block : (g : Shape) (b : ℕ) → hasBlock g b ≡ true → (1 ≤ b) × (b ≤ g .blocks)
 unfolding hasBlock
-has-block g b e = let p = and-eq-true-iff (leb 1 b) (leb b (g .blocks)) .0 e in (leb-true 1 b (p .0), leb-true b (g .blocks) (p .1))
+has-block g b e = let p = both {a = leb 1 b} {b = leb b (g .blocks)} e in (leb-true 1 b (p .0), leb-true b (g .blocks) (p .1))
 
 -- the blocks before block b, and block b, are at most all of them
-pub blocks-fit : (block b n : ℕ) → 1 ≤ b → b ≤ n → (b - 1) * block + block ≤ n * block
+blocks-fit : (block b n : ℕ) → 1 ≤ b → b ≤ n → (b - 1) * block + block ≤ n * block
 blocks-fit block zero n low high = absurd (not-suc-le-zero low)
 blocks-fit block (suc a) n low high = rw sub-one (omega (arith, mul-le-mul-right block high))
 

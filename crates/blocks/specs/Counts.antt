@@ -18,6 +18,10 @@ unfoldable pub countOf : ℕ → ℕ → ℤ → Count
 countOf block size (negsuc d) = cond (eqb (suc d) size) (Records 0) Bad
 countOf block size (pos n) = cond (eqb (n % size) 0 && leb (n + size) (block - blockHead)) (Records (n / size + 1)) Bad
 
--- the third word of a block's head, a signed number, is that offset
+-- where the third word of a block's head stands: the offset of the last record, a signed number
+abbrev pub lastRecord : ℕ
+lastRecord = 4
+
+-- 9: the count of block b
 unfoldable pub countIn : List ℕ → Shape → ℕ → Count
-countIn t g b = countOf (g .block) (g .size) (signed (half 2) (word t (blockAt g b + 4)))
+countIn t g b = countOf (g .block) (g .size) (signed (half 2) (word t (blockAt g b + lastRecord)))

@@ -13,7 +13,7 @@ use Rattle.blocks.specs.declared.Shape.{Shape}
 unfoldable pub shapeOf : Header → Shape
 shapeOf h = record { header = h .header; block = h .block; blocks = h .blocks; size = h .size }
 
--- whether block b is in the file
+-- 13, 8, 27: whether block b is in the file
 unfoldable pub hasBlock : Shape → ℕ → Bool
 hasBlock g b = leb 1 b && leb b (g .blocks)
 

@@ -14,7 +14,7 @@ use borrow.Author.Tests.{le-leb, lt-leb, lt-ltb, le-ltb}
 use Rattle.words.specs.Numbers.{byte}
 use Rattle.words.specs.Order.{range}
 use Rattle.words.proofs.Ranges.{range-length, range-byte}
-use Rattle.words.proofs.SignedLaws.{lt-or-ge}
+use Rattle.words.proofs.Cases.{lt-or-ge}
 use Rattle.header.specs.declared.kind.FieldKind.the-variants as Kin
 use Rattle.cell.specs.declared.value.Value.the-variants as Val
 use Rattle.cell.specs.declared.form.Coded.the-variants as Cod

@@ -23,7 +23,8 @@ use Rattle.words.proofs.Conjunctions.{both}
 use Rattle.words.proofs.EachLaws.{each-fails}
 use Rattle.words.proofs.Ranges.{range-length, range-byte, range-join}
 use Rattle.words.proofs.ZeroLaws.{Nonzero, before-nonzero, before-most, before-whole, zero-range, zeros-behind, before-zeros}
-use Rattle.words.proofs.SignedLaws.{lt-or-ge, half-twice, complemented-lt, complemented-twice, complemented-some, complemented-other, less-below, less-from, signed-complemented}
+use Rattle.words.proofs.Cases.{lt-or-ge}
+use Rattle.words.proofs.SignedLaws.{half-twice, complemented-lt, complemented-twice, complemented-some, complemented-other, less-below, less-from, signed-complemented}
 use Rattle.header.specs.Refusals.{noMeaning}
 use Rattle.cell.specs.Values.{Content, text, contentOf, answerOf}
 use Rattle.cell.specs.Reading.{leastDate, mostDate, isDate, dateCell, numberCell, logicalCell, textWith}

@@ -13,7 +13,8 @@ use mir.ValLaws.{toZ-ofZ, toZ-pos}
 use borrow.Author.Tests.{lt-ltb, le-ltb}
 use Rattle.words.specs.Numbers.{digits}
 use Rattle.words.specs.Signed.{half, complemented, signed}
-use Rattle.words.proofs.SignedLaws.{lt-or-ge, less-below, less-from, signed-complemented, signed-below, signed-from}
+use Rattle.words.proofs.Cases.{lt-or-ge}
+use Rattle.words.proofs.SignedLaws.{less-below, less-from, signed-complemented, signed-below, signed-from}
 use Rattle.cell.specs.Writing.{signedForm, none, bytes}
 
 -- ---- reading: the machine's own signed number of a width is the definition's

@@ -151,6 +151,7 @@ module _ (t : List ℕ) (h : Header) (a : Accepted t h) (f : ℕ) where
           record {
             least = low;
             most = high;
+            wide = sym (p .1);
             stored = rw (p .1) at (p .0);
             permitted = rw (p .1) at (kind-width (byte t (h .area + 2 * (f - 1))) (widthAt t (h .area) (f - 1)) kind (p .0));
             starts = sym (p .2);

@@ -7,7 +7,7 @@ use lib.ListN.{length, getD}
 use Rattle.words.specs.Numbers.{byte}
 use Rattle.header.specs.Kinds.{kindOf, Permitted}
 use Rattle.header.specs.Stored.{storedOf, blockSize, encryptionAt, areaAt, namesAt}
-use Rattle.header.specs.Fields.{kindAt, widthSum, longestName}
+use Rattle.header.specs.Fields.{widthAt, kindAt, widthSum, longestName}
 use Rattle.header.specs.Header.{leastHeader, leastVersion, mostVersion, mostUnits, blockHead, mostBlocks, mostFields, mostRecords, headerOf}
 use Rattle.header.specs.declared.Header.{Header}
 use Rattle.header.specs.declared.stored.Stored.{Stored}
@@ -91,11 +91,12 @@ pub record Accepted (t : List ℕ) (h : Header) : Type 0 where
   pub key-least : 1 ≤ h .keys → 1 ≤ h .key
   pub pairs : (f : ℕ) → f < h .fields → kindAt t (h .area) f ≡ Unknown → ⊥
 
--- a field of an accepted table: its number is one of the fields', its kind is that of the stored pair, its width one that the kind
--- permits, and it ends inside the record
+-- a field of an accepted table: its number is one of the fields', its kind and width are those of the stored pair, the kind permits
+-- the width, and it ends inside the record
 pub record FieldBounds (t : List ℕ) (h : Header) (f : ℕ) (kind : FieldKind) (width offset : ℕ) : Type 0 where
   pub least : 1 ≤ f
   pub most : f ≤ h .fields
+  pub wide : width ≡ widthAt t (h .area) (f - 1)
   pub stored : kindOf (byte t (h .area + 2 * (f - 1))) width ≡ Kind kind
   pub permitted : Permitted kind width
   pub starts : offset ≡ widthSum t (h .area) (f - 1)

@@ -25,7 +25,7 @@ big-digits (suc w) n rest h =
     let b : byte (digits w (n / 256) ++ n % 256 ∷ rest) w ≡ n % 256 = getD-at (digits w (n / 256)) (n % 256) rest 0 w (digits-length w (n / 256)) in
     rw (a, zero-add, b, big-digits w (n / 256) (n % 256 ∷ rest) (omega arith)) (omega arith)
 
--- the bytes of the number at a place are the bytes there
+-- the bytes of the number at an offset are the bytes there
 pub digits-big : (s : List ℕ) (at w : ℕ) → Bytes s → at + w ≤ length s → digits w (big s at w) ≡ range s at w
 unfolding digits big
 digits-big s at zero h l = refl

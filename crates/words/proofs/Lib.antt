@@ -1,3 +1,4 @@
+pub mod Cases
 pub mod Conjunctions
 pub mod DigitLaws
 pub mod EachLaws

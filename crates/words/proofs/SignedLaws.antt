@@ -9,14 +9,8 @@ use lib.Arith.{lt-of-le-ne}
 use lib.Dec.{ltb}
 use lib.IntN.{pos, negsuc, _-ℤ_}
 use borrow.Author.Tests.{lt-ltb, le-ltb, le-leb, lt-leb, ltb-true, ltb-false}
+use Rattle.words.proofs.Cases.{lt-or-ge}
 use Rattle.words.specs.Signed.{half, complemented, signed}
-
-pub lt-or-ge : (n m : ℕ) → (n < m) ⊎ (m ≤ n)
-lt-or-ge n m = go (ltb n m) refl
-  where
-    go : (t : Bool) → ltb n m ≡ t → (n < m) ⊎ (m ≤ n)
-    go true e = inl (ltb-true n m e)
-    go false e = inr (ltb-false n m e)
 
 -- twice the top bit is all that w bytes can count
 pub half-twice : (w : ℕ) → 1 ≤ w → half w + half w ≡ 256 ^ w

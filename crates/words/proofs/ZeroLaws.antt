@@ -16,7 +16,7 @@ use Rattle.words.specs.Order.{range}
 use Rattle.words.specs.Zeros.{allZero, beforeZero}
 use Rattle.words.proofs.EachLaws.{each-gives, each-takes}
 use Rattle.words.proofs.Ranges.{range-length, range-byte}
-use Rattle.words.proofs.SignedLaws.{lt-or-ge}
+use Rattle.words.proofs.Cases.{lt-or-ge}
 
 -- the bytes before the first zero are no zeros, and the zero ends them
 pub before-nonzero : (t : List ℕ) (at m i : ℕ) → i < beforeZero t at m → byte t (at + i) ≡ 0 → ⊥
@@ -49,7 +49,7 @@ before-most t at (suc m) = go (eqb (byte t at) 0) (before-most t (suc at) m)
 
 -- ---- a pass over bytes that are no zeros
 
--- the first i bytes at a place are no zeros
+-- the first i bytes at an offset are no zeros
 abbrev pub Nonzero : List ℕ → ℕ → ℕ → Type 0
 Nonzero t at i = (j : ℕ) → j < i → byte t (at + j) ≡ 0 → ⊥
 

@@ -1,9 +1,9 @@
--- Numbers of w bytes at a place of a file. Offsets and widths count bytes. Definitions only.
+-- Numbers of w bytes at an offset of a file. Offsets and widths count bytes. Definitions only.
 use Prim.Native.Nat.{ℕ, zero, suc, _+_, _*_, _/_, _%_, _^_, _<_}
 use mathlib.Core.List.{List, [], _∷_, _++_}
 use lib.ListN.{getD}
 
--- the byte at a place; past the end it counts as 0, and no answer depends on that
+-- the byte at an offset; past the end it counts as 0, and no answer depends on that
 abbrev pub byte : List ℕ → ℕ → ℕ
 byte s at = getD s at 0
 
@@ -11,7 +11,7 @@ byte s at = getD s at 0
 abbrev pub Bytes : List ℕ → Type 0
 Bytes s = (i : ℕ) → byte s i < 256
 
--- the number of the w bytes at a place, low byte first (headers and block heads)
+-- the number of the w bytes at an offset, low byte first (headers and block heads)
 unfoldable pub little : List ℕ → ℕ → ℕ → ℕ
 little s at zero = 0
 little s at (suc w) = little s at w + 256 ^ w * byte s (at + w)
@@ -24,7 +24,7 @@ word s at = little s at 2
 abbrev pub long : List ℕ → ℕ → ℕ
 long s at = little s at 4
 
--- the number of the w bytes at a place, high byte first (cells and index entries)
+-- the number of the w bytes at an offset, high byte first (cells and index entries)
 unfoldable pub big : List ℕ → ℕ → ℕ → ℕ
 big s at zero = 0
 big s at (suc w) = big s at w * 256 + byte s (at + w)

@@ -7,7 +7,7 @@ use lib.ListN.{take, drop}
 use Rattle.words.specs.declared.Order.{Order}
 use Rattle.words.specs.declared.Order.the-variants.{Less, Same, More}
 
--- the n bytes of a file from a place
+-- the n bytes of a file from an offset
 abbrev pub range : List ℕ → ℕ → ℕ → List ℕ
 range s at n = take n (drop at s)
 

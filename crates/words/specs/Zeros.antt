@@ -1,4 +1,4 @@
--- Zero bytes at a place of a file. Definitions only.
+-- Zero bytes at an offset of a file. Definitions only.
 use Prim.Native.Nat.{ℕ, zero, suc, _+_}
 use mathlib.Core.Bool.{Bool, cond}
 use mathlib.Core.List.{List}
@@ -6,7 +6,7 @@ use lib.Dec.{eqb}
 use Rattle.words.specs.Each.{each}
 use Rattle.words.specs.Numbers.{byte}
 
--- the n bytes at a place are all zero
+-- the n bytes at an offset are all zero
 abbrev pub allZero : List ℕ → ℕ → ℕ → Bool
 allZero s at n = each (λ (i : ℕ). eqb (byte s (at + i)) 0) n
 

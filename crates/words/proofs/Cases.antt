@@ -1,0 +1,15 @@
+-- Two numbers told apart. Assumes nothing.
+use Prim.Native.Nat.{ℕ, _≤_, _<_}
+use mathlib.Core.Path.{_≡_, refl}
+use mathlib.Core.Bool.{Bool, true, false}
+use mathlib.Core.Logic.{_⊎_, inl, inr}
+use lib.Dec.{ltb}
+use borrow.Author.Tests.{ltb-true, ltb-false}
+
+-- a number is below another, or not
+pub lt-or-ge : (n m : ℕ) → (n < m) ⊎ (m ≤ n)
+lt-or-ge n m = go (ltb n m) refl
+  where
+    go : (t : Bool) → ltb n m ≡ t → (n < m) ⊎ (m ≤ n)
+    go true e = inl (ltb-true n m e)
+    go false e = inr (ltb-false n m e)
