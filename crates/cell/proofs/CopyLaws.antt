@@ -20,8 +20,8 @@ use Rattle.cell.specs.declared.value.Value.the-variants as Val
 use Rattle.cell.specs.declared.form.Coded.the-variants as Cod
 
 -- a part of so many bytes, without a sum
-pub part-is : (l start len : ℕ) → len ≤ l → leb start (l - len) ≡ leb (start + len) l
-part-is l start len h =
+pub part-test : (l start len : ℕ) → len ≤ l → leb start (l - len) ≡ leb (start + len) l
+part-test l start len h =
     ⊎-elim
     (λ (k : l - len < start). rw (lt-leb start (l - len) k, lt-leb (start + len) l (omega arith)))
     (λ (k : start ≤ l - len). rw (le-leb start (l - len) k, le-leb (start + len) l (omega arith)))

@@ -77,7 +77,7 @@ unfolding size
 zero-bits n e = rw e
 
 -- the bits of negative zero
-pub minus-bits : (x : Float) → minusZero x ≡ true → toBits binary64 x ≡ 9223372036854775808
+minus-bits : (x : Float) → minusZero x ≡ true → toBits binary64 x ≡ 9223372036854775808
 unfolding minusZero toBits
 minus-bits nan h = absurd (true≢false (sym h))
 minus-bits (inf s) h = absurd (true≢false (sym h))

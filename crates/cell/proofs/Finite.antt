@@ -1,26 +1,36 @@
 -- No number that isn't finite gets through: none is read, none is written, and a cell that stores one is refused with 11.
 -- Assumes nothing.
 use mathlib.Core.Path.{_≡_, refl, sym, ap, _∙_}
-use mathlib.Core.Bool.{Bool, true, false, cond, not, _&&_}
+use mathlib.Core.Bool.{Bool, true, false, cond, not, _&&_, true≢false}
+use borrow.Author.Tests.{eqb-true}
 use mathlib.Core.List.{List}
 use mathlib.Core.Logic.{⊎-elim}
-use Prim.Native.Nat.{ℕ}
+use Prim.Native.Nat.{ℕ, _%_, _≤_}
 use native.Mathlib.Omega.{arith}
+use lib.Dec.{ltb}
+use lib.ListN.{length}
 use lib.Ieee.{Float}
 use lib.Ieee.Scale.{finite}
 use Rattle.words.specs.Numbers.{big, digits}
 use Rattle.words.specs.Signed.{half, complemented}
 use Rattle.words.specs.Zeros.{allZero, beforeZero}
 use Rattle.words.proofs.Conjunctions.{both}
+use Rattle.words.proofs.SignedLaws.{complemented-below}
+use Rattle.words.proofs.ZeroLaws.{zero-number}
+use Rattle.header.specs.Refusals.{noMeaning}
+use Rattle.header.specs.Kinds.{kindOf, isBlob, Permitted}
+use Rattle.header.specs.declared.kind.StoredKind.the-variants.{Kind}
 use Rattle.header.specs.declared.kind.FieldKind.{FieldKind}
 use Rattle.header.specs.declared.kind.FieldKind.the-variants as Kin
 use Rattle.cell.specs.Values.{number}
 use Rattle.cell.specs.Reading.{signedAt, doubleAt, numberCell, valueAt, cellAt, cellOf}
-use Rattle.cell.specs.Writing.{none, bytes, minusZero, numberForm, formOf, writeOf}
+use Rattle.cell.specs.Writing.{none, bytes, minusZero, numberForm, formOf, ofKind, putForm, writeOf}
 use Rattle.cell.specs.declared.value.Value.the-variants as Val
 use Rattle.cell.specs.declared.value.Cell.the-variants.{Is, Refused}
 use Rattle.cell.proofs.ReadingLaws.{no-cell, cell-value}
 use Rattle.cell.proofs.PlaceLaws.{stands}
+use Rattle.cell.proofs.DoubleLaws.{finite-is}
+use Rattle.cell.proofs.WritingLaws.{write-form}
 use Rattle.cell.proofs.Inverse.{no-form, read-date, read-number, read-logical, read-text}
 use Rattle.cell.proofs.RoundTrip.{read-as, wrote}
 
@@ -63,7 +73,26 @@ module _ (x : Float) where
   unfolding formOf
   written-finite code w buffer out h = let r = wrote code w (number x) buffer out h in form-finite w (r .1) (r .6)
 
--- a number cell that is not blank and stores no finite number is refused with 11
-pub infinite-refused : (s : List ℕ) (at w : ℕ) → allZero s at w ≡ false → finite (doubleAt s at w) ≡ false → cellAt Kin.Number s at w ≡ Refused 11
-unfolding valueAt numberCell
-infinite-refused s at w z f = sym (cell-value Kin.Number s at w z) ∙ rw f
+-- zeros are negative zero's bytes with the top bit complemented, which is finite
+zeros-finite : (s : List ℕ) (at w : ℕ) → w ≡ 8 → allZero s at w ≡ true → finite (doubleAt s at w) ≡ true
+zeros-finite s at w e z =
+    let n : big s at w ≡ 0 = eqb-true (big s at w) 0 (sym (zero-number s at w) ∙ z) in
+    rw (n, e) (sym (finite-is (complemented (half 8) 0)) ∙ low)
+  where
+    low : ltb (complemented (half 8) 0 % 9223372036854775808) 9218868437227405312 ≡ true
+    low = rw (complemented-below (half 8) 0 (omega arith))
+
+-- a number cell that stores no finite number is refused with 11
+pub infinite-refused : (s : List ℕ) (at w : ℕ) → Permitted Kin.Number w → finite (doubleAt s at w) ≡ false → cellAt Kin.Number s at w ≡ Refused noMeaning
+unfolding Permitted valueAt numberCell
+infinite-refused s at w p f = go (allZero s at w) refl
+  where
+    go : (z : Bool) → allZero s at w ≡ z → cellAt Kin.Number s at w ≡ Refused noMeaning
+    go true z = absurd (true≢false (sym (zeros-finite s at w p z) ∙ f))
+    go false z = sym (cell-value Kin.Number s at w z) ∙ rw f
+
+-- a number that isn't finite is not written: 11, and the buffer as it was
+pub infinite-unwritten : (x : Float) (code w : ℕ) (buffer : List ℕ) → kindOf code w ≡ Kind Kin.Number → w ≤ length buffer → finite x ≡ false
+    → writeOf code w (number x) buffer ≡ (noMeaning, buffer)
+unfolding isBlob ofKind formOf numberForm putForm
+infinite-unwritten x code w buffer k room f = sym (write-form code w (number x) buffer Kin.Number k refl refl room) ∙ rw f

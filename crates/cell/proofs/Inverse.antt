@@ -27,7 +27,7 @@ use Rattle.words.proofs.Cases.{lt-or-ge}
 use Rattle.words.proofs.SignedLaws.{half-twice, complemented-lt, complemented-twice, complemented-some, complemented-other, less-below, less-from, signed-complemented}
 use Rattle.header.specs.Refusals.{noMeaning}
 use Rattle.cell.specs.Values.{Content, text, contentOf, answerOf}
-use Rattle.cell.specs.Reading.{leastDate, mostDate, isDate, dateCell, numberCell, logicalCell, textWith}
+use Rattle.cell.specs.Reading.{falseByte, trueByte, leastDate, mostDate, isDate, dateCell, numberCell, logicalCell, textWith}
 use Rattle.cell.specs.Writing.{none, bytes, noZero, signedForm, dateForm, numberForm, textForm}
 use Rattle.cell.specs.declared.value.Value.{Value}
 use Rattle.cell.specs.declared.value.Value.the-variants as Val
@@ -40,8 +40,8 @@ pub no-form : {X : Type 0} {s : List ℕ} → none ≡ bytes s → X
 no-form h = let z : _≡_ {A = ℕ} 0 1 = cc in absurd (omega arith)
 
 -- bytes are those of a number above 0, of which this is said
-abbrev pub Stored : ℕ → List ℕ → (ℕ → Type 0) → Type 0
-Stored w s means = (n : ℕ) × (0 < n) × (n < 256 ^ w) × (digits w n ≡ s) × means n
+abbrev pub Numbered : ℕ → List ℕ → (ℕ → Type 0) → Type 0
+Numbered w s means = (n : ℕ) × (0 < n) × (n < 256 ^ w) × (digits w n ≡ s) × means n
 
 -- ---- signed numbers, once over the width
 
@@ -58,11 +58,11 @@ module _ (w : ℕ) (some : 1 ≤ w) where
       (lt-or-ge n (half w)))
 
   -- what has a form is what the form's number means
-  pub signed-means : (z : ℤ) (s : List ℕ) → signedForm w z ≡ bytes s → Stored w s (λ n. signed (half w) (complemented (half w) n) ≡ z)
+  pub signed-means : (z : ℤ) (s : List ℕ) → signedForm w z ≡ bytes s → Numbered w s (λ n. signed (half w) (complemented (half w) n) ≡ z)
   unfolding signedForm
   signed-means (pos m) s h = go (ltb m (half w)) refl h
     where
-      go : (t : Bool) → ltb m (half w) ≡ t → cond t (bytes (digits w (m + half w))) none ≡ bytes s → Stored w s (λ n. signed (half w) (complemented (half w) n) ≡ pos m)
+      go : (t : Bool) → ltb m (half w) ≡ t → cond t (bytes (digits w (m + half w))) none ≡ bytes s → Numbered w s (λ n. signed (half w) (complemented (half w) n) ≡ pos m)
       go true e k =
           let l = ltb-true m (half w) e in
           let t = half-twice w some in
@@ -72,7 +72,7 @@ module _ (w : ℕ) (some : 1 ≤ w) where
   signed-means (negsuc m) s h = go (ltb (suc m) (half w)) refl h
     where
       go : (t : Bool) → ltb (suc m) (half w) ≡ t → cond t (bytes (digits w (half w - suc m))) none ≡ bytes s
-          → Stored w s (λ n. signed (half w) (complemented (half w) n) ≡ negsuc m)
+          → Numbered w s (λ n. signed (half w) (complemented (half w) n) ≡ negsuc m)
       go true e k =
           let l = ltb-true (suc m) (half w) e in
           let t = half-twice w some in
@@ -98,12 +98,12 @@ read-date (pos d) v h = go (isDate d) refl h
 read-date (negsuc d) v h = no-cell h
 
 -- a date that has a form is what the form's number means
-pub date-means : (d : ℕ) (s : List ℕ) → dateForm 4 d ≡ bytes s → Stored 4 s (λ n. dateCell (signed (half 4) (complemented (half 4) n)) ≡ Is (Val.Date d))
+pub date-means : (d : ℕ) (s : List ℕ) → dateForm 4 d ≡ bytes s → Numbered 4 s (λ n. dateCell (signed (half 4) (complemented (half 4) n)) ≡ Is (Val.Date d))
 unfolding dateCell dateForm
 date-means d s h = go (isDate d) refl h
   where
     go : (t : Bool) → isDate d ≡ t → cond t (bytes (digits 4 (d + half 4))) none ≡ bytes s
-        → Stored 4 s (λ n. dateCell (signed (half 4) (complemented (half 4) n)) ≡ Is (Val.Date d))
+        → Numbered 4 s (λ n. dateCell (signed (half 4) (complemented (half 4) n)) ≡ Is (Val.Date d))
     go true e k =
         let q = signed-means 4 (omega arith) (pos d) s (sym (date-signed d e) ∙ h) in
         (q .0, q .1, q .2, q .3, ap dateCell (q .4) ∙ rw e)
@@ -141,7 +141,7 @@ number-form n p h f =
 
 -- a double of the format that has a form is what the form's number means
 pub number-means : (x : Float) (s : List ℕ) → fits binary64 x ≡ true → numberForm 8 x ≡ bytes s
-    → Stored 8 s (λ n. numberCell (ofBits binary64 (complemented (half 8) n)) ≡ Is (Val.Number x))
+    → Numbered 8 s (λ n. numberCell (ofBits binary64 (complemented (half 8) n)) ≡ Is (Val.Number x))
 unfolding numberCell
 number-means x s f h = go (finite (ofBits binary64 (toBits binary64 x))) (eqb (toBits binary64 x) (half 8)) refl refl
   where
@@ -152,7 +152,7 @@ number-means x s f h = go (finite (ofBits binary64 (toBits binary64 x))) (eqb (t
     same = ofBits-toBits binary64 x (subst T (sym f) tt)
 
     go : (a b : Bool) → finite (ofBits binary64 (toBits binary64 x)) ≡ a → eqb (toBits binary64 x) (half 8) ≡ b
-        → Stored 8 s (λ n. numberCell (ofBits binary64 (complemented (half 8) n)) ≡ Is (Val.Number x))
+        → Numbered 8 s (λ n. numberCell (ofBits binary64 (complemented (half 8) n)) ≡ Is (Val.Number x))
     go false b p q = no-form (infinite-form x f p ∙ h)
     go true true p q = no-form (zero-form x f (eqb-true (toBits binary64 x) (half 8) q) ∙ h)
     go true false p q =
@@ -168,21 +168,21 @@ number-means x s f h = go (finite (ofBits binary64 (toBits binary64 x))) (eqb (t
 -- ---- logicals
 
 -- a cell with a logical has the logical's number
-pub read-logical : (n : ℕ) (v : Value) → logicalCell n ≡ Is v → (b : Bool) × (v ≡ Val.Logical b) × (cond b 0x81 0x80 ≡ n)
+pub read-logical : (n : ℕ) (v : Value) → logicalCell n ≡ Is v → (b : Bool) × (v ≡ Val.Logical b) × (cond b trueByte falseByte ≡ n)
 unfolding logicalCell
-read-logical n v h = go (eqb n 0x80) (eqb n 0x81) refl refl h
+read-logical n v h = go (eqb n falseByte) (eqb n trueByte) refl refl h
   where
-    go : (p q : Bool) → eqb n 0x80 ≡ p → eqb n 0x81 ≡ q → cond p (Is (Val.Logical false)) (cond q (Is (Val.Logical true)) (Refused noMeaning)) ≡ Is v
-        → (b : Bool) × (v ≡ Val.Logical b) × (cond b 0x81 0x80 ≡ n)
-    go true q e f k = (false, cc, sym (eqb-true n 0x80 e))
-    go false true e f k = (true, cc, sym (eqb-true n 0x81 f))
+    go : (p q : Bool) → eqb n falseByte ≡ p → eqb n trueByte ≡ q → cond p (Is (Val.Logical false)) (cond q (Is (Val.Logical true)) (Refused noMeaning)) ≡ Is v
+        → (b : Bool) × (v ≡ Val.Logical b) × (cond b trueByte falseByte ≡ n)
+    go true q e f k = (false, cc, sym (eqb-true n falseByte e))
+    go false true e f k = (true, cc, sym (eqb-true n trueByte f))
     go false false e f k = no-cell k
 
 -- a logical is what its number means
-pub logical-means : (b : Bool) → Stored 1 (digits 1 (cond b 0x81 0x80)) (λ n. logicalCell n ≡ Is (Val.Logical b))
+pub logical-means : (b : Bool) → Numbered 1 (digits 1 (cond b trueByte falseByte)) (λ n. logicalCell n ≡ Is (Val.Logical b))
 unfolding logicalCell
-logical-means true = (0x81, omega arith, omega arith, refl, refl)
-logical-means false = (0x80, omega arith, omega arith, refl, refl)
+logical-means true = (trueByte, omega arith, omega arith, refl, refl)
+logical-means false = (falseByte, omega arith, omega arith, refl, refl)
 
 -- ---- texts
 

@@ -1,5 +1,5 @@
 -- A cell that reads as a value stands inside the table, and its text is a part of it. Assumes nothing.
-use mathlib.Core.Path.{_≡_, refl, subst}
+use mathlib.Core.Path.{_≡_, refl, ap, subst}
 use mathlib.Core.Bool.{Bool, true, false, cond, not, _&&_}
 use mathlib.Core.List.{List}
 use Prim.Native.Nat.{ℕ, _+_, _-_, _*_, _≤_, _<_}
@@ -30,21 +30,11 @@ use Rattle.blocks.proofs.ShapeLaws.{sound, shape-size, has-block, block-inside}
 use Rattle.blocks.proofs.CountLaws.{record-inside}
 use Rattle.cell.proofs.ReadingLaws.{no-cell}
 use Rattle.cell.specs.Values.{contentOf, answerOf, textOf, valuePart, partOf}
-use Rattle.cell.specs.Reading.{signedAt, doubleAt, textWith, dateCell, numberCell, logicalCell, isDate, valueAt, cellAt, placeCell, fieldCell, blockCell, cellOf}
+use Rattle.cell.specs.Reading.{falseByte, trueByte, signedAt, doubleAt, textWith, dateCell, numberCell, logicalCell, isDate, valueAt, cellAt, placeCell, fieldCell, blockCell, cellOf, Stands}
 use Rattle.cell.specs.declared.value.Value.{Value}
 use Rattle.cell.specs.declared.value.Value.the-variants as Val
 use Rattle.cell.specs.declared.value.Cell.{Cell}
 use Rattle.cell.specs.declared.value.Cell.the-variants.{Is, Refused}
-
--- where the cell at a block, place and field stands: the kind of its stored pair, its width and its place in the table
-pub record Stands (t : List ℕ) (b p f : ℕ) (v : Value) : Type 0 where
-  pub kind : FieldKind
-  pub width : ℕ
-  pub at : ℕ
-  pub stored : kindOf (byte t (headerOf t .area + 2 * (f - 1))) width ≡ Kind kind
-  pub permitted : Permitted kind width
-  pub inside : at + width ≤ length t
-  pub means : cellAt kind t at width ≡ Is v
 
 module _ (t : List ℕ) (b p f : ℕ) (v : Value) where
   module _ (a : Accepted t (headerOf t)) (here : hasBlock (shapeOf (headerOf t)) b ≡ true) where
@@ -59,8 +49,10 @@ module _ (t : List ℕ) (b p f : ℕ) (v : Value) where
           kind = kind;
           width = width;
           at = recordAt g b p + offset;
+          wide = d .wide;
           stored = d .stored;
           permitted = d .permitted;
+          begins = ap (λ (o : ℕ). recordAt g b p + o) (d .starts);
           inside = omega (arith, record-inside t g s b n k p l, block-inside t g s b (q .0) (q .1), d .inside, shape-size (headerOf t));
           means = m;
         }
@@ -119,8 +111,8 @@ value-ends Kin.Short s at w = omega arith
 value-ends Kin.Long s at w = omega arith
 value-ends Kin.Number s at w = ends-if (finite (doubleAt s at w)) (Is (Val.Number (doubleAt s at w))) (Refused 11) (at + w) (omega arith) (omega arith)
 value-ends Kin.Logical s at w =
-    ends-if (eqb (big s at w) 0x80) (Is (Val.Logical false)) (cond (eqb (big s at w) 0x81) (Is (Val.Logical true)) (Refused 11)) (at + w) (omega arith)
-    (ends-if (eqb (big s at w) 0x81) (Is (Val.Logical true)) (Refused 11) (at + w) (omega arith) (omega arith))
+    ends-if (eqb (big s at w) falseByte) (Is (Val.Logical false)) (cond (eqb (big s at w) trueByte) (Is (Val.Logical true)) (Refused 11)) (at + w) (omega arith)
+    (ends-if (eqb (big s at w) trueByte) (Is (Val.Logical true)) (Refused 11) (at + w) (omega arith) (omega arith))
 value-ends Kin.Blob s at w = omega arith
 
 -- a text ends no later than its cell
@@ -140,13 +132,13 @@ part-inside t b p f = go (cellOf t b p f) refl
         omega (arith, subst (λ (c : Cell). ends c ≤ s .at + s .width) (s .means) (cell-ends (s .kind) t (s .at) (s .width)), s .inside)
 
 -- and its bytes are the part's
-pub part-is : (s : List ℕ) (c : Cell) → ends c ≤ length s → range s (partOf c .start) (partOf c .len) ≡ textOf (answerOf s c .1)
+pub part-text : (s : List ℕ) (c : Cell) → ends c ≤ length s → range s (partOf c .start) (partOf c .len) ≡ textOf (answerOf s c .1)
 unfolding partOf valuePart answerOf contentOf textOf
-part-is s (Refused n) h = refl
-part-is s (Is Val.Blank) h = refl
-part-is s (Is (Val.Short z)) h = refl
-part-is s (Is (Val.Long z)) h = refl
-part-is s (Is (Val.Date d)) h = refl
-part-is s (Is (Val.Number x)) h = refl
-part-is s (Is (Val.Logical b)) h = refl
-part-is s (Is (Val.Text start len)) h = rw (le-leb (start + len) (length s) h)
+part-text s (Refused n) h = refl
+part-text s (Is Val.Blank) h = refl
+part-text s (Is (Val.Short z)) h = refl
+part-text s (Is (Val.Long z)) h = refl
+part-text s (Is (Val.Date d)) h = refl
+part-text s (Is (Val.Number x)) h = refl
+part-text s (Is (Val.Logical b)) h = refl
+part-text s (Is (Val.Text start len)) h = rw (le-leb (start + len) (length s) h)

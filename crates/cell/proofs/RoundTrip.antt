@@ -28,9 +28,11 @@ use Rattle.header.specs.declared.kind.FieldKind.the-variants as Kin
 use Rattle.header.specs.declared.kind.StoredKind.{StoredKind}
 use Rattle.header.specs.declared.kind.StoredKind.the-variants.{Kind, Unknown}
 use Rattle.header.specs.Header.{headerOf}
+use Rattle.header.specs.Fields.{widthAt, widthSum}
+use Rattle.blocks.specs.Shape.{shapeOf, recordAt}
 use Rattle.header.proofs.KindLaws.{kind-width}
-use Rattle.cell.specs.Values.{Content, nothing, blank, short, long, date, number, logical, text, contentOf, answerOf}
-use Rattle.cell.specs.Reading.{isDate, signedAt, doubleAt, valueAt, cellAt, cellOf}
+use Rattle.cell.specs.Values.{Held, Content, nothing, blank, short, long, date, number, logical, text, contentOf, answerOf}
+use Rattle.cell.specs.Reading.{falseByte, trueByte, isDate, signedAt, doubleAt, valueAt, cellAt, cellOf}
 use Rattle.cell.specs.Writing.{Form, none, bytes, minusZero, signedForm, dateForm, numberForm, formOf, ofKind, putForm, putValue, writeKind, writeStored, writeOf}
 use Rattle.cell.specs.declared.value.Value.{Value}
 use Rattle.cell.specs.declared.value.Value.the-variants as Val
@@ -39,18 +41,7 @@ use Rattle.cell.proofs.PlaceLaws.{stands}
 use Rattle.cell.proofs.ReadingLaws.{no-cell}
 use Rattle.cell.proofs.ValueKinds.{same-kind}
 use Rattle.cell.proofs.WritingLaws.{write-form}
-use Rattle.cell.proofs.Inverse.{no-form, Stored, signed-form, signed-means, read-date, date-means, read-number, number-form, number-means, read-logical, logical-means, text-means, text-not-blank, text-reads, read-text, text-part, text-form}
-
--- what a program's value has: a number is one of the format
-abbrev pub Held : Content → Type 0
-Held nothing = Unit {0}
-Held blank = Unit {0}
-Held (short z) = Unit {0}
-Held (long z) = Unit {0}
-Held (date d) = Unit {0}
-Held (number x) = fits binary64 x ≡ true
-Held (logical b) = Unit {0}
-Held (text s) = Unit {0}
+use Rattle.cell.proofs.Inverse.{no-form, Numbered, signed-form, signed-means, read-date, date-means, read-number, number-form, number-means, read-logical, logical-means, text-means, text-not-blank, text-reads, read-text, text-part, text-form}
 
 -- ---- how long a form is
 
@@ -72,7 +63,7 @@ form-length w (short z) s h = signed-length w z s h
 form-length w (long z) s h = signed-length w z s h
 form-length w (date d) s h = digits-form w (d + half w) (isDate d) s h
 form-length w (number x) s h = digits-form w (complemented (half w) (toBits binary64 x)) (finite x && not (minusZero x)) s h
-form-length w (logical b) s h = digits-form w (cond b 0x81 0x80) true s h
+form-length w (logical b) s h = digits-form w (cond b trueByte falseByte) true s h
 form-length w (text t) s h =
     let q = text-means w t s h in
     ap length (sym (q .3)) ∙ rw (length-append, length-replicate) (let l = q .1 in omega arith)
@@ -80,7 +71,7 @@ form-length w (text t) s h =
 -- ---- a form reads as its value
 
 -- where the kind's meaning is by the number of the bytes
-stored-reads : {means : ℕ → Type 0} (kind : FieldKind) (w : ℕ) (s : List ℕ) (c : Content) (rest : List ℕ) → isBlob kind ≡ false → Stored w s means
+stored-reads : {means : ℕ → Type 0} (kind : FieldKind) (w : ℕ) (s : List ℕ) (c : Content) (rest : List ℕ) → isBlob kind ≡ false → Numbered w s means
     → ((t : List ℕ) → means (big t 0 w) → answerOf t (valueAt kind t 0 w) ≡ (0, c)) → answerOf (s ++ rest) (cellAt kind (s ++ rest) 0 w) ≡ (0, c)
 unfolding cellAt
 stored-reads kind w s c rest b (n, p, l, e, m) h =
@@ -90,7 +81,7 @@ stored-reads kind w s c rest b (n, p, l, e, m) h =
 -- the form of a value of the cell's kind reads as the value, whatever stands behind it
 pub form-reads : (kind : FieldKind) (w : ℕ) (c : Content) (s rest : List ℕ) → Permitted kind w → isBlob kind ≡ false → Held c → ofKind c kind ≡ true → formOf w c ≡ bytes s
     → answerOf (s ++ rest) (cellAt kind (s ++ rest) 0 w) ≡ (0, c)
-unfolding formOf ofKind Permitted isBlob valueAt cellAt answerOf contentOf
+unfolding Held formOf ofKind Permitted isBlob valueAt cellAt answerOf contentOf
 form-reads kind w nothing s rest p b h u f = no-form f
 form-reads kind w blank s rest p b h u f =
     let e : s ≡ replicate w 0 = cc in rw (e, b, zeros-behind [] w rest)
@@ -113,8 +104,8 @@ form-reads kind w (number x) s rest p b h u f =
 form-reads kind w (logical x) s rest p b h u f =
     let k = same-kind kind Kin.Logical u in
     let l : w ≡ 1 = rw k at p in
-    let e : s ≡ digits 1 (cond x 0x81 0x80) = let g = rw l at f in cc in
-    rw (k, l, e) (stored-reads Kin.Logical 1 (digits 1 (cond x 0x81 0x80)) (logical x) rest refl (logical-means x) (λ t m. ap (answerOf t) m))
+    let e : s ≡ digits 1 (cond x trueByte falseByte) = let g = rw l at f in cc in
+    rw (k, l, e) (stored-reads Kin.Logical 1 (digits 1 (cond x trueByte falseByte)) (logical x) rest refl (logical-means x) (λ t m. ap (answerOf t) m))
 form-reads kind w (text t) s rest p b h u f =
     let k = same-kind kind Kin.Text u in
     let q = text-means w t s f in
@@ -149,7 +140,7 @@ outcome code w c buffer = by (kindOf code w) refl
     by (Kind kind) k = go kind k (isBlob kind) (ofKind c kind) (leb w (length buffer)) (formOf w c) refl refl refl refl
 
 -- the form of a value of the cell's kind is what is written, where the buffer has room
-pub write-is : (code : ℕ) (kind : FieldKind) (w : ℕ) (c : Content) (s buffer : List ℕ)
+write-is : (code : ℕ) (kind : FieldKind) (w : ℕ) (c : Content) (s buffer : List ℕ)
     → kindOf code w ≡ Kind kind → isBlob kind ≡ false → ofKind c kind ≡ true → w ≤ length buffer → formOf w c ≡ bytes s
     → writeOf code w c buffer ≡ (0, s ++ drop w buffer)
 unfolding putForm
@@ -171,14 +162,17 @@ wrote code w c buffer out h =
     (λ (r : Written code w c buffer (writeOf code w c buffer)). rw h at r)
     (outcome code w c buffer)
 
--- the bytes past the width never change, and the buffer keeps its length
-pub write-rest : (code w : ℕ) (c : Content) (buffer out : List ℕ) → writeOf code w c buffer ≡ (0, out) → (drop w out ≡ drop w buffer) × (length out ≡ length buffer)
-write-rest code w c buffer out h =
-    let r = wrote code w c buffer out h in
+-- whatever the answer, what stands behind the width is as it was, and the buffer keeps its length
+pub write-rest : (code w : ℕ) (c : Content) (buffer : List ℕ) (n : ℕ) (out : List ℕ) → writeOf code w c buffer ≡ (n, out) → (drop w out ≡ drop w buffer) × (length out ≡ length buffer)
+write-rest code w c buffer n out h =
+    ⊎-elim
+    (λ (r : Refusal buffer (writeOf code w c buffer)). let e : out ≡ buffer = ap (λ (a : ℕ × List ℕ). a .1) (sym h ∙ r .1) in rw e (refl, refl))
+    (λ (r : Written code w c buffer (writeOf code w c buffer)).
     let s = r .1 in
-    let n = form-length w c s (r .6) in
-    let e : out ≡ s ++ drop w buffer = ap (λ (a : ℕ × List ℕ). a .1) (r .7) in
-    (ap (drop w) e ∙ drop-at s (drop w buffer) w n, ap length e ∙ length-front buffer s w (n ∙ sym (length-take-le w buffer (r .5))))
+    let l = form-length w c s (r .6) in
+    let e : out ≡ s ++ drop w buffer = ap (λ (a : ℕ × List ℕ). a .1) (sym h ∙ r .7) in
+    (ap (drop w) e ∙ drop-at s (drop w buffer) w l, ap length e ∙ length-front buffer s w (l ∙ sym (length-take-le w buffer (r .5)))))
+    (outcome code w c buffer)
 
 -- a value that is written reads as itself
 pub write-then-read : (code w : ℕ) (c : Content) (buffer out : List ℕ) → Held c → writeOf code w c buffer ≡ (0, out)
@@ -279,7 +273,7 @@ read-then-write code kind w s at v buffer k b room h fit =
     (r .1)
 
 value-held : (kind : FieldKind) (s : List ℕ) (at w : ℕ) (v : Value) → valueAt kind s at w ≡ Is v → Held (contentOf s v)
-unfolding valueAt contentOf
+unfolding Held valueAt contentOf
 value-held Kin.Text s at w v h = rw (read-text s at w (beforeZero s at w) v h .0) (go (leb (at + beforeZero s at w) (length s)))
   where
     go : (t : Bool) → Held (cond t (text (range s at (beforeZero s at w))) nothing)
@@ -295,17 +289,22 @@ value-held Kin.Blob s at w v h = no-cell h
 
 -- a value that is read is one that a program's value can be
 pub read-held : (kind : FieldKind) (s : List ℕ) (at w : ℕ) (v : Value) → cellAt kind s at w ≡ Is v → Held (contentOf s v)
-unfolding contentOf
+unfolding Held contentOf
 read-held kind s at w v h =
     ⊎-elim
     (λ (c : (allZero s at w ≡ true) × (v ≡ Val.Blank)). rw (c .1) tt)
     (λ (c : (allZero s at w ≡ false) × (valueAt kind s at w ≡ Is v)). value-held kind s at w v (c .1))
     (read-as kind s at w v h .1)
 
--- a cell of a table that reads as a value, written by its field's stored code and width, gives the cell's bytes
-pub table-then-write : (t : List ℕ) (b p f : ℕ) (v : Value) (buffer : List ℕ) → Bytes t → (e : cellOf t b p f ≡ Is v)
-    → (let s = stands t b p f v e in
-    s .width ≤ length buffer → writeOf (byte t (headerOf t .area + 2 * (f - 1))) (s .width) (contentOf t v) buffer ≡ (0, range t (s .at) (s .width) ++ drop (s .width) buffer))
+-- the cell at a block, place and field of a table that reads as a value, written by its field's stored pair, gives its bytes: those
+-- behind the fields before it in its record
+pub table-then-write : (t : List ℕ) (b p f : ℕ) (v : Value) (buffer : List ℕ) → Bytes t → cellOf t b p f ≡ Is v
+    → (let area = headerOf t .area in
+    let width = widthAt t area (f - 1) in
+    let at = recordAt (shapeOf (headerOf t)) b p + widthSum t area (f - 1) in
+    width ≤ length buffer → writeOf (byte t (area + 2 * (f - 1))) width (contentOf t v) buffer ≡ (0, range t at width ++ drop width buffer))
 table-then-write t b p f v buffer all e fit =
     let s = stands t b p f v e in
-    read-then-write (byte t (headerOf t .area + 2 * (f - 1))) (s .kind) (s .width) t (s .at) v buffer (s .stored) all (s .inside) (s .means) fit
+    let k = s .wide in
+    let a = s .begins in
+    rw (← k, ← a) (read-then-write (byte t (headerOf t .area + 2 * (f - 1))) (s .kind) (s .width) t (s .at) v buffer (s .stored) all (s .inside) (s .means) (rw k fit))

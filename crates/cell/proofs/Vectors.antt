@@ -1,8 +1,8 @@
 -- Document 01's cells, as one table that antt computes. Assumes nothing.
 use mathlib.Core.Path.{_≡_, refl}
 use mathlib.Core.Bool.{Bool, true, false, cond}
-use mathlib.Core.List.{List, [], _∷_, map}
-use Prim.Native.Nat.{ℕ, _-_, _^_}
+use mathlib.Core.List.{List, [], _∷_, _++_, map}
+use Prim.Native.Nat.{ℕ, _+_, _-_, _^_}
 use lib.IntN.{pos, negsuc}
 use lib.Ieee.{fin, ofBits, toBits}
 use lib.ListN.{length, replicate}
@@ -43,10 +43,11 @@ abbrev pub bothWays : List Row → List Row
 bothWays [] = []
 bothWays (r ∷ rows) = cond (r .4) (r ∷ bothWays rows) (bothWays rows)
 
--- each code with the width of its bytes is of the kind; each row reads as it says; and those marked so are written as their bytes
+-- each code with the width of its bytes is of the kind; each row reads as it says; and those marked so are written as their bytes,
+-- over other bytes and with the byte behind them kept
 pub cells-hold :
     (map (λ (r : Row). kindOf (r .1) (length (r .2))) cells ≡ map (λ (r : Row). Kind (r .0)) cells)
     × (map (λ (r : Row). answerOf (r .2) (cellAt (r .0) (r .2) 0 (length (r .2)))) cells ≡ map (λ (r : Row). r .3) cells)
-    × (map (λ (r : Row). writeOf (r .1) (length (r .2)) (r .3 .1) (replicate (length (r .2)) 0)) (bothWays cells) ≡ map (λ (r : Row). (0, r .2)) (bothWays cells))
+    × (map (λ (r : Row). writeOf (r .1) (length (r .2)) (r .3 .1) (replicate (length (r .2) + 1) 0xAA)) (bothWays cells) ≡ map (λ (r : Row). (0, r .2 ++ (0xAA ∷ []))) (bothWays cells))
 unfolding each big digits complemented signed kinds permit kindIn kindOf isBlob contentOf answerOf dateCell numberCell logicalCell valueAt cellAt ofBits toBits minusZero signedForm dateForm numberForm formOf ofKind putForm putValue writeKind writeStored writeOf
 cells-hold = (refl, refl, refl)

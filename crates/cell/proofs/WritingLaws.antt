@@ -1,5 +1,5 @@
 -- The definition of writing, one law for each form and each answer. Assumes nothing.
-use mathlib.Core.Path.{_≡_, ap, subst}
+use mathlib.Core.Path.{_≡_, refl, sym, ap, _∙_, subst}
 use mathlib.Core.Bool.{Bool, true, false, cond}
 use mathlib.Core.List.{List, _++_}
 use Prim.Native.Nat.{ℕ, _+_, _-_, _≤_, _<_}
@@ -15,13 +15,16 @@ use Rattle.words.specs.Zeros.{beforeZero}
 use Rattle.words.proofs.DigitLaws.{digits-zero}
 use Rattle.words.proofs.Ranges.{range-length, range-byte}
 use Rattle.words.proofs.ZeroLaws.{before-same, before-most}
+use lib.Dec.{eqb}
 use Rattle.header.specs.declared.kind.FieldKind.{FieldKind}
 use Rattle.header.specs.declared.kind.FieldKind.the-variants as Kin
 use Rattle.header.specs.declared.kind.StoredKind.the-variants.{Kind, Unknown}
-use Rattle.header.specs.Kinds.{kindOf, isBlob}
+use Rattle.header.specs.Kinds.{kindOf, isBlob, Permitted}
 use Rattle.header.specs.Refusals.{blobCell, badArgument, shortBuffer}
 use Rattle.cell.specs.Values.{Content, short, long, date, number, logical, contentOf}
-use Rattle.cell.specs.Writing.{none, bytes, signedForm, dateForm, numberForm, textForm, formOf, ofKind, putForm, putValue, writeKind, writeStored, writeOf}
+use Rattle.cell.specs.Writing.{none, bytes, codeOf, signedForm, dateForm, numberForm, textForm, formOf, ofKind, putForm, putValue, writeKind, writeStored, writeOf}
+use Rattle.cell.proofs.ValueKinds.{same-width}
+use Rattle.cell.specs.Reading.{falseByte, trueByte}
 use Rattle.cell.specs.Steps.{codedForm, OfWidth}
 use Rattle.cell.specs.declared.value.Value.{Value}
 use Rattle.cell.specs.declared.value.Value.the-variants as Val
@@ -31,32 +34,35 @@ use Rattle.cell.specs.declared.form.Coded.the-variants as Cod
 -- ---- a number's form, by the case of the value
 
 module _ (s : List ℕ) (v : Value) (w : ℕ) (o : OfWidth (contentOf s v) w) where
-  width : (c : Content) → contentOf s v ≡ c → OfWidth c w
-  width c e = subst (λ (d : Content). OfWidth d w) e o
+  -- the width, where the value is of one kind
+  width : (c : Content) (other : FieldKind) → contentOf s v ≡ c → ((kind : FieldKind) → ofKind c kind ≡ eqb (codeOf kind) (codeOf other)) → Permitted other w
+  width c other e k =
+      let q = subst (λ (d : Content). OfWidth d w) e o in
+      same-width (q .0) other w (sym (k (q .0)) ∙ q .1) (q .2)
 
   pub form-blank : v ≡ Val.Blank → codedForm w (Cod.Number 0) ≡ formOf w (contentOf s v)
   unfolding contentOf formOf codedForm
   form-blank e = rw e (ap bytes (digits-zero w))
 
   pub form-short : (z : ℤ) → v ≡ Val.Short z → (k : Coded) → codedForm 2 k ≡ signedForm 2 z → codedForm w k ≡ formOf w (contentOf s v)
-  unfolding contentOf formOf OfWidth
-  form-short z e k f = let q : w ≡ 2 = width (short z) (ap (contentOf s) e) in rw (e, q) f
+  unfolding contentOf formOf ofKind Permitted
+  form-short z e k f = let q : w ≡ 2 = width (short z) Kin.Short (ap (contentOf s) e) (λ kind. refl) in rw (e, q) f
 
   pub form-long : (z : ℤ) → v ≡ Val.Long z → (k : Coded) → codedForm 4 k ≡ signedForm 4 z → codedForm w k ≡ formOf w (contentOf s v)
-  unfolding contentOf formOf OfWidth
-  form-long z e k f = let q : w ≡ 4 = width (long z) (ap (contentOf s) e) in rw (e, q) f
+  unfolding contentOf formOf ofKind Permitted
+  form-long z e k f = let q : w ≡ 4 = width (long z) Kin.Long (ap (contentOf s) e) (λ kind. refl) in rw (e, q) f
 
   pub form-date : (d : ℕ) → v ≡ Val.Date d → (k : Coded) → codedForm 4 k ≡ dateForm 4 d → codedForm w k ≡ formOf w (contentOf s v)
-  unfolding contentOf formOf OfWidth
-  form-date d e k f = let q : w ≡ 4 = width (date d) (ap (contentOf s) e) in rw (e, q) f
+  unfolding contentOf formOf ofKind Permitted
+  form-date d e k f = let q : w ≡ 4 = width (date d) Kin.Date (ap (contentOf s) e) (λ kind. refl) in rw (e, q) f
 
   pub form-number : (x : Float) → v ≡ Val.Number x → (k : Coded) → codedForm 8 k ≡ numberForm 8 x → codedForm w k ≡ formOf w (contentOf s v)
-  unfolding contentOf formOf OfWidth
-  form-number x e k f = let q : w ≡ 8 = width (number x) (ap (contentOf s) e) in rw (e, q) f
+  unfolding contentOf formOf ofKind Permitted
+  form-number x e k f = let q : w ≡ 8 = width (number x) Kin.Number (ap (contentOf s) e) (λ kind. refl) in rw (e, q) f
 
-  pub form-logical : (b : Bool) → v ≡ Val.Logical b → (k : Coded) → codedForm 1 k ≡ bytes (digits 1 (cond b 0x81 0x80)) → codedForm w k ≡ formOf w (contentOf s v)
-  unfolding contentOf formOf OfWidth
-  form-logical b e k f = let q : w ≡ 1 = width (logical b) (ap (contentOf s) e) in rw (e, q) f
+  pub form-logical : (b : Bool) → v ≡ Val.Logical b → (k : Coded) → codedForm 1 k ≡ bytes (digits 1 (cond b trueByte falseByte)) → codedForm w k ≡ formOf w (contentOf s v)
+  unfolding contentOf formOf ofKind Permitted
+  form-logical b e k f = let q : w ≡ 1 = width (logical b) Kin.Logical (ap (contentOf s) e) (λ kind. refl) in rw (e, q) f
 
 -- the form of a text that is lent
 pub form-text : (s : List ℕ) (v : Value) (w start len : ℕ) → v ≡ Val.Text start len → start + len ≤ length s → textForm w (range s start len) ≡ formOf w (contentOf s v)

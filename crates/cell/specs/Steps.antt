@@ -1,11 +1,14 @@
 -- What the private functions ask and answer: no rule is stated here. Definitions only.
 use Prim.Native.Nat.{ℕ, _+_, _≤_}
 use mathlib.Core.Path.{_≡_}
+use mathlib.Core.Bool.{true}
 use mathlib.Core.List.{List}
 use lib.ListN.{length}
 use Rattle.words.specs.Numbers.{digits}
-use Rattle.cell.specs.Values.{Content, nothing, blank, short, long, date, number, logical, text}
-use Rattle.cell.specs.Writing.{Form, none, bytes}
+use Rattle.header.specs.Kinds.{Permitted}
+use Rattle.header.specs.declared.kind.FieldKind.{FieldKind}
+use Rattle.cell.specs.Values.{Content}
+use Rattle.cell.specs.Writing.{Form, none, bytes, ofKind}
 use Rattle.cell.specs.declared.value.Value.{Value}
 use Rattle.cell.specs.declared.value.Value.the-variants as Val
 use Rattle.cell.specs.declared.form.Coded.{Coded}
@@ -16,18 +19,11 @@ unfoldable pub codedForm : ℕ → Coded → Form
 codedForm w (Cod.Number n) = bytes (digits w n)
 codedForm w Cod.None = none
 
--- the width that a value's kind has, where it has one only
-unfoldable pub OfWidth : Content → ℕ → Type 0
-OfWidth nothing w = Unit {0}
-OfWidth blank w = Unit {0}
-OfWidth (short z) w = w ≡ 2
-OfWidth (long z) w = w ≡ 4
-OfWidth (date d) w = w ≡ 4
-OfWidth (number x) w = w ≡ 8
-OfWidth (logical b) w = w ≡ 1
-OfWidth (text s) w = Unit {0}
+-- a width that a kind of the value permits
+abbrev pub OfWidth : Content → ℕ → Type 0
+OfWidth c w = (kind : FieldKind) × (ofKind c kind ≡ true) × Permitted kind w
 
--- a text is a part of the bytes lent for it
+-- a value's text is a part of the bytes lent for it
 unfoldable pub TextInside : List ℕ → Value → Type 0
 TextInside s Val.Blank = Unit {0}
 TextInside s (Val.Short z) = Unit {0}

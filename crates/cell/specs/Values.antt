@@ -1,10 +1,11 @@
 -- The values of document 01's cells, and what each case of the enums stands for. Definitions only.
 use Prim.Native.Nat.{ℕ, _+_}
-use mathlib.Core.Bool.{Bool, cond}
+use mathlib.Core.Path.{_≡_}
+use mathlib.Core.Bool.{Bool, true, cond}
 use mathlib.Core.List.{List, []}
 use lib.Dec.{leb}
 use lib.IntN.{ℤ}
-use lib.Ieee.{Float}
+use lib.Ieee.{Float, fits, binary64}
 use lib.ListN.{length}
 use Rattle.words.specs.Order.{range}
 use Rattle.cell.specs.declared.value.Value.{Value}
@@ -50,12 +51,24 @@ textOf (number x) = []
 textOf (logical b) = []
 textOf (text bytes) = bytes
 
+-- what every double of a program has: it is one of the format
+unfoldable pub Held : Content → Type 0
+Held nothing = Unit {0}
+Held blank = Unit {0}
+Held (short z) = Unit {0}
+Held (long z) = Unit {0}
+Held (date d) = Unit {0}
+Held (number x) = fits binary64 x ≡ true
+Held (logical b) = Unit {0}
+Held (text s) = Unit {0}
+
 -- ---- a text as the part of the lent bytes that it is
 
 -- no text: the empty part
 abbrev pub noPart : Part
 noPart = record { start = 0; len = 0 }
 
+-- the part that a value's text is; the empty one where it is no text
 unfoldable pub valuePart : Value → Part
 valuePart Val.Blank = noPart
 valuePart (Val.Short z) = noPart
@@ -65,10 +78,11 @@ valuePart (Val.Number x) = noPart
 valuePart (Val.Logical b) = noPart
 valuePart (Val.Text start len) = record { start = start; len = len }
 
+-- the part that a cell's text is; the empty one where it is refused
 unfoldable pub partOf : Cell → Part
 partOf (Cel.Is v) = valuePart v
 partOf (Cel.Refused n) = noPart
 
--- the place in memory so many bytes behind another
+-- the address so many bytes behind another
 abbrev pub behind : ℕ × ℕ → ℕ → ℕ × ℕ
-behind place n = (place .0, n + place .1)
+behind address n = (address .0, n + address .1)

@@ -17,7 +17,7 @@ use Rattle.header.specs.declared.kind.FieldKind.the-variants as Kin
 use Rattle.header.specs.declared.kind.StoredKind.{StoredKind}
 use Rattle.header.specs.declared.kind.StoredKind.the-variants.{Kind, Unknown}
 use Rattle.cell.specs.Values.{Content, nothing, blank, short, long, date, number, logical, text}
-use Rattle.cell.specs.Reading.{isDate}
+use Rattle.cell.specs.Reading.{isDate, falseByte, trueByte}
 
 -- ---- the stored form
 
@@ -26,20 +26,22 @@ pub data Form : Type 0 where
   none : Form
   bytes : List ℕ → Form
 
--- short, long: z and the top bit added, where that is above 0 and fits w bytes; the least number would be the blank
+-- short, long: z and the top bit added, where that is above 0 and fits w bytes; the least number would be the blank (11)
 unfoldable pub signedForm : ℕ → ℤ → Form
 signedForm w (pos m) = cond (ltb m (half w)) (bytes (digits w (m + half w))) none
 signedForm w (negsuc m) = cond (ltb (suc m) (half w)) (bytes (digits w (half w - suc m))) none
 
+-- date: stored as a long, where it is a day that has a meaning (11 else)
 unfoldable pub dateForm : ℕ → ℕ → Form
 dateForm w d = cond (isDate d) (bytes (digits w (d + half w))) none
 
--- negative zero, whose bytes would be the blank's
+-- whether a double is negative zero, whose bytes would be the blank's
 unfoldable pub minusZero : Float → Bool
 minusZero nan = false
 minusZero (inf s) = false
 minusZero (fin s m e) = s && eqb m 0
 
+-- number, currency: the double's bits with the top bit complemented, where it is finite and not negative zero (11 else)
 unfoldable pub numberForm : ℕ → Float → Form
 numberForm w x = cond (finite x && not (minusZero x)) (bytes (digits w (complemented (half w) (toBits binary64 x)))) none
 
@@ -47,7 +49,7 @@ numberForm w x = cond (finite x && not (minusZero x)) (bytes (digits w (compleme
 abbrev pub noZero : List ℕ → Bool
 noZero s = eqb (beforeZero s 0 (length s)) (length s)
 
--- text: 1 to w bytes without a zero, and zeros behind them
+-- text: 1 to w bytes without a zero, and zeros behind them (11 else)
 unfoldable pub textForm : ℕ → List ℕ → Form
 textForm w s = cond (leb 1 (length s) && leb (length s) w && noZero s) (bytes (s ++ replicate (w - length s) 0)) none
 
@@ -59,12 +61,12 @@ formOf w (short z) = signedForm w z
 formOf w (long z) = signedForm w z
 formOf w (date d) = dateForm w d
 formOf w (number x) = numberForm w x
-formOf w (logical b) = bytes (digits w (cond b 0x81 0x80))
+formOf w (logical b) = bytes (digits w (cond b trueByte falseByte))
 formOf w (text s) = textForm w s
 
 -- ---- writing
 
--- a code of each kind, to tell kinds apart; 05 and 06 share one
+-- a code of each kind, to tell kinds apart; currency has number's
 abbrev pub codeOf : FieldKind → ℕ
 codeOf Kin.Text = 0x01
 codeOf Kin.Date = 0x02
@@ -74,16 +76,16 @@ codeOf Kin.Number = 0x06
 codeOf Kin.Logical = 0x09
 codeOf Kin.Blob = 0x0C
 
--- whether a value is of a kind; blank ofKind every kind
+-- whether a value is of a kind; a blank is of every kind, and what is no part of the lent bytes of none
 unfoldable pub ofKind : Content → FieldKind → Bool
 ofKind nothing kind = false
 ofKind blank kind = true
-ofKind (short z) kind = eqb (codeOf kind) 0x03
-ofKind (long z) kind = eqb (codeOf kind) 0x04
-ofKind (date d) kind = eqb (codeOf kind) 0x02
-ofKind (number x) kind = eqb (codeOf kind) 0x06
-ofKind (logical b) kind = eqb (codeOf kind) 0x09
-ofKind (text s) kind = eqb (codeOf kind) 0x01
+ofKind (short z) kind = eqb (codeOf kind) (codeOf Kin.Short)
+ofKind (long z) kind = eqb (codeOf kind) (codeOf Kin.Long)
+ofKind (date d) kind = eqb (codeOf kind) (codeOf Kin.Date)
+ofKind (number x) kind = eqb (codeOf kind) (codeOf Kin.Number)
+ofKind (logical b) kind = eqb (codeOf kind) (codeOf Kin.Logical)
+ofKind (text s) kind = eqb (codeOf kind) (codeOf Kin.Text)
 
 -- 11 for no stored form; else 0, and the form in the first bytes
 unfoldable pub putForm : ℕ → Form → List ℕ → ℕ × List ℕ

@@ -3,6 +3,7 @@
 ghost use mathlib.Core.Path.{_≡_};
 ghost use mathlib.Core.Bool.{cond};
 ghost use Rattle.words.specs.Numbers.{digits};
+ghost use Rattle.cell.specs.Reading.{falseByte, trueByte};
 ghost use Rattle.cell.specs.Writing.{bytes, dateForm, numberForm, signedForm};
 ghost use Rattle.cell.specs.Steps.{codedForm};
 use crate::double;
@@ -68,7 +69,7 @@ pub fn number_form(x: f64) -> Coded
 
 // A logical always has a form.
 pub fn logical_form(b: bool) -> Coded
-    ensures { λ r. ⌜ codedForm 1 r ≡ bytes (digits 1 (cond b 0x81 0x80)) ⌝ }
+    ensures { λ r. ⌜ codedForm 1 r ≡ bytes (digits 1 (cond b trueByte falseByte)) ⌝ }
 {
     if b {
         return Coded::Number(limits::TRUE);

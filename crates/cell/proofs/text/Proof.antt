@@ -7,7 +7,7 @@ use lib.ListN.{length, take, drop}
 use Rattle.words.specs.Order.{range}
 use Rattle.cell.specs.Values.{partOf, behind}
 use Rattle.cell.specs.declared.part.Part.{Part}
-use Rattle.cell.proofs.PlaceLaws.{part-inside, part-is}
+use Rattle.cell.proofs.PlaceLaws.{part-inside, part-text}
 use Rattle.cell.specs.Reading.{cellOf}
 use Rattle.cell.proofs.text.Statement.{statement}
 use Rattle.cell.proofs.text.Tie as tie
@@ -48,7 +48,7 @@ returns c =
     let l : r .start + r .len - r .start ≡ r .len = omega arith in (
       ap (λ (n : ℕ). take n (drop (r .start) (v .table .now))) l
           ∙ ap (λ (q : Part). range (v .table .now) (q .start) (q .len)) e
-          ∙ part-is (v .table .now) x (part-inside (v .table .now) (v .block) (v .place) (v .field)),
+          ∙ part-text (v .table .now) x (part-inside (v .table .now) (v .block) (v .place) (v .field)),
       ap (λ (q : Part). behind (v .table .ptr) (q .start)) e,
     )
 

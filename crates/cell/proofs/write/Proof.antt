@@ -8,7 +8,7 @@ use Rattle.header.specs.declared.kind.StoredKind.the-variants.{Kind}
 use Rattle.header.proofs.KindLaws.{kind-width}
 use Rattle.cell.specs.Writing.{ofKind}
 use Rattle.cell.specs.Values.{contentOf}
-use Rattle.cell.proofs.ValueKinds.{of-width, of-kind-inside}
+use Rattle.cell.proofs.ValueKinds.{of-kind-inside}
 use Rattle.cell.proofs.WritingLaws.{write-unknown, write-blob, write-other, write-short, write-form}
 use Rattle.cell.proofs.write.Statement.{statement}
 use Rattle.cell.proofs.write.Tie as tie
@@ -51,22 +51,22 @@ returns-3 c =
     let v = c .before .before .before .before .before .before .before .before .before .before .args in
     write-other (v .code) (v .width) (contentOf (v .text .now) (v .value)) (v .buffer .now) (c .before .before .before .before .before .kind .given .0 .0) (known (c .before .before .before .before)) (plain (c .before .before)) (sym (c .before .is-of-kind .ensures) ∙ not-true (c .before .is-of-kind .result) (c .if2 .taken))
 
--- the value ofKind the kind
-suited : (c : tie.Else2) → let v = c .before .before .before .before .before .before .before .before .before .before .args in ofKind (contentOf (v .text .now) (v .value)) (c .before .before .before .before .before .kind .given .0 .0) ≡ true
-suited c = sym (c .before .is-of-kind .ensures) ∙ not-false (c .before .is-of-kind .result) (c .if2 .left)
+-- the value is of the kind
+kindred : (c : tie.Else2) → let v = c .before .before .before .before .before .before .before .before .before .before .args in ofKind (contentOf (v .text .now) (v .value)) (c .before .before .before .before .before .kind .given .0 .0) ≡ true
+kindred c = sym (c .before .is-of-kind .ensures) ∙ not-false (c .before .is-of-kind .result) (c .if2 .left)
 
 returns-4 : tie.Need-returns-4
 returns-4 c =
     let v = c .before .before .before .before .before .before .before .before .before .before .before .args in
-    write-short (v .code) (v .width) (contentOf (v .text .now) (v .value)) (v .buffer .now) (c .before .before .before .before .before .before .kind .given .0 .0) (known (c .before .before .before .before .before)) (plain (c .before .before .before)) (suited (c .before)) (c .if3 .taken)
+    write-short (v .code) (v .width) (contentOf (v .text .now) (v .value)) (v .buffer .now) (c .before .before .before .before .before .before .kind .given .0 .0) (known (c .before .before .before .before .before)) (plain (c .before .before .before)) (kindred (c .before)) (c .if3 .taken)
 
 put-value-requires : tie.Need-put-value-requires
 put-value-requires c κs =
     let v = c .before .before .before .before .before .before .before .before .before .before .before .before .args in
     let kind = c .before .before .before .before .before .before .before .kind .given .0 .0 in
-    let f = suited (c .before .before) in (
+    let f = kindred (c .before .before) in (
       c .before .if3 .left,
-      of-width (contentOf (v .text .now) (v .value)) kind (v .width) f (kind-width (v .code) (v .width) kind (known (c .before .before .before .before .before .before))),
+      (kind, f, kind-width (v .code) (v .width) kind (known (c .before .before .before .before .before .before))),
       of-kind-inside (v .text .now) (v .value) kind f,
     )
 
@@ -77,7 +77,7 @@ returns-5 : tie.Need-returns-5
 returns-5 c =
     let v = c .before .before .before .before .before .before .before .before .before .before .before .before .before .before .before .args in
     c .before .before .put-value .ensures
-    ∙ write-form (v .code) (v .width) (contentOf (v .text .now) (v .value)) (v .buffer .now) (c .before .before .before .before .before .before .before .before .before .before .kind .given .0 .0) (known (c .before .before .before .before .before .before .before .before .before)) (plain (c .before .before .before .before .before .before .before)) (suited (c .before .before .before .before .before)) (c .before .before .before .before .if3 .left)
+    ∙ write-form (v .code) (v .width) (contentOf (v .text .now) (v .value)) (v .buffer .now) (c .before .before .before .before .before .before .before .before .before .before .kind .given .0 .0) (known (c .before .before .before .before .before .before .before .before .before)) (plain (c .before .before .before .before .before .before .before)) (kindred (c .before .before .before .before .before)) (c .before .before .before .before .if3 .left)
 
 pub write-spec : {M : Type 1} → statement M
 write-spec =

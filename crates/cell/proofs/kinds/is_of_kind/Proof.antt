@@ -1,4 +1,4 @@
--- `ofKind` meets its contract, case by case. Assumes nothing.
+-- `is_of_kind` meets its contract, case by case. Assumes nothing.
 use borrow.Author.Needs.{needs}
 use Rattle.cell.specs.Values.{contentOf}
 use Rattle.cell.specs.Writing.{ofKind}
