@@ -15,9 +15,6 @@ use Rattle.words.specs.Numbers.{byte}
 use Rattle.words.specs.Order.{range}
 use Rattle.words.proofs.Ranges.{range-length, range-byte}
 use Rattle.words.proofs.Cases.{lt-or-ge}
-use Rattle.header.specs.declared.kind.FieldKind.the-variants as Kin
-use Rattle.cell.specs.declared.value.Value.the-variants as Val
-use Rattle.cell.specs.declared.form.Coded.the-variants as Cod
 
 -- a part of so many bytes, without a sum
 pub part-test : (l start len : ℕ) → len ≤ l → leb start (l - len) ≡ leb (start + len) l

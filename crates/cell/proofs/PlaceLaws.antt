@@ -2,23 +2,22 @@
 use mathlib.Core.Path.{_≡_, refl, ap, subst}
 use mathlib.Core.Bool.{Bool, true, false, cond, not, _&&_}
 use mathlib.Core.List.{List}
-use Prim.Native.Nat.{ℕ, _+_, _-_, _*_, _≤_, _<_}
+use Prim.Native.Nat.{ℕ, _+_, _-_, _≤_, _<_}
 use native.Mathlib.Omega.{arith}
 use lib.Dec.{eqb, ltb}
 use lib.ListN.{length}
 use borrow.Author.Tests.{eqb-true, ltb-true, le-leb}
 use lib.IntN.{ℤ, pos, negsuc}
 use lib.Ieee.Scale.{finite}
-use Rattle.words.specs.Numbers.{byte, big}
+use Rattle.words.specs.Numbers.{big}
 use Rattle.words.specs.Order.{range}
 use Rattle.words.specs.Zeros.{allZero, beforeZero}
 use Rattle.words.proofs.ZeroLaws.{before-most}
-use Rattle.header.specs.Kinds.{kindOf, isBlob, Permitted}
+use Rattle.header.specs.Kinds.{isBlob}
 use Rattle.header.specs.Header.{headerOf, fieldOf}
 use Rattle.header.specs.Rules.{Accepted}
 use Rattle.header.specs.declared.kind.FieldKind.{FieldKind}
 use Rattle.header.specs.declared.kind.FieldKind.the-variants as Kin
-use Rattle.header.specs.declared.kind.StoredKind.the-variants.{Kind}
 use Rattle.header.specs.declared.field.Field.{Field}
 use Rattle.header.specs.declared.field.Field.the-variants as Fie
 use Rattle.header.proofs.AcceptedLaws.{accepted, field-bounds}
@@ -30,7 +29,7 @@ use Rattle.blocks.proofs.ShapeLaws.{sound, shape-size, has-block, block-inside}
 use Rattle.blocks.proofs.CountLaws.{record-inside}
 use Rattle.cell.proofs.ReadingLaws.{no-cell}
 use Rattle.cell.specs.Values.{contentOf, answerOf, textOf, valuePart, partOf}
-use Rattle.cell.specs.Reading.{falseByte, trueByte, signedAt, doubleAt, textWith, dateCell, numberCell, logicalCell, isDate, valueAt, cellAt, placeCell, fieldCell, blockCell, cellOf, Stands}
+use Rattle.cell.specs.Reading.{falseByte, trueByte, signedAt, doubleAt, textWith, dateCell, numberCell, logicalCell, isDate, valueAt, cellAt, placeCell, fieldCell, blockCell, cellOf, readOf, Stands}
 use Rattle.cell.specs.declared.value.Value.{Value}
 use Rattle.cell.specs.declared.value.Value.the-variants as Val
 use Rattle.cell.specs.declared.value.Cell.{Cell}
@@ -131,8 +130,7 @@ part-inside t b p f = go (cellOf t b p f) refl
         let s = stands t b p f v e in
         omega (arith, subst (λ (c : Cell). ends c ≤ s .at + s .width) (s .means) (cell-ends (s .kind) t (s .at) (s .width)), s .inside)
 
--- and its bytes are the part's
-pub part-text : (s : List ℕ) (c : Cell) → ends c ≤ length s → range s (partOf c .start) (partOf c .len) ≡ textOf (answerOf s c .1)
+part-text : (s : List ℕ) (c : Cell) → ends c ≤ length s → range s (partOf c .start) (partOf c .len) ≡ textOf (answerOf s c .1)
 unfolding partOf valuePart answerOf contentOf textOf
 part-text s (Refused n) h = refl
 part-text s (Is Val.Blank) h = refl
@@ -142,3 +140,8 @@ part-text s (Is (Val.Date d)) h = refl
 part-text s (Is (Val.Number x)) h = refl
 part-text s (Is (Val.Logical b)) h = refl
 part-text s (Is (Val.Text start len)) h = rw (le-leb (start + len) (length s) h)
+
+-- and its bytes are the part's
+pub text-bytes : (t : List ℕ) (b p f : ℕ) → range t (partOf (cellOf t b p f) .start) (partOf (cellOf t b p f) .len) ≡ textOf (readOf t b p f .1)
+unfolding readOf
+text-bytes t b p f = part-text t (cellOf t b p f) (part-inside t b p f)

@@ -5,16 +5,19 @@ use mathlib.Core.List.{List}
 use Prim.Native.Nat.{ℕ, _+_, _-_, _^_, _≤_, _<_}
 use native.Mathlib.Omega.{arith}
 use borrow.Author.Tests.{le-leb, lt-leb, lt-ltb, le-ltb, eq-eqb, ne-eqb}
+use lib.IntN.{pos}
 use lib.Ieee.{binary64, ofBits}
 use Rattle.words.specs.Numbers.{Bytes, big}
 use Rattle.words.specs.Signed.{half, complemented, signed}
 use Rattle.words.specs.Zeros.{allZero, beforeZero}
 use Rattle.words.proofs.NumberLaws.{big-lt}
 use Rattle.words.proofs.SignedLaws.{signed-complemented, less-below, less-from}
+use Rattle.header.specs.Refusals.{wrongCount, noMeaning, blobCell, badArgument}
 use Rattle.header.specs.Kinds.{isBlob, Permitted}
 use Rattle.header.specs.declared.kind.FieldKind.{FieldKind}
 use Rattle.header.specs.declared.kind.FieldKind.the-variants as Kin
-use Rattle.cell.specs.Reading.{dateCell, numberCell, logicalCell, textWith, valueAt, cellAt, placeCell, fieldCell, blockCell, cellOf}
+use Rattle.cell.specs.Values.{answerOf}
+use Rattle.cell.specs.Reading.{leastDate, mostDate, dateCell, numberCell, logicalCell, textWith, valueAt, cellAt, placeCell, fieldCell, blockCell, cellOf, readOf}
 use Rattle.header.specs.Header.{headerOf, fieldOf}
 use Rattle.header.specs.declared.Header.{Header}
 use Rattle.header.specs.declared.field.Field.the-variants as Fie
@@ -33,30 +36,30 @@ no-cell h = let z : _≡_ {A = ℕ} 0 1 = cc in absurd (omega arith)
 -- ---- dates
 
 module _ (n : ℕ) where
-  pub date-negative : n < 2147483648 → Refused 11 ≡ dateCell (signed 2147483648 (complemented 2147483648 n))
+  pub date-negative : n < half 4 → Refused noMeaning ≡ dateCell (signed (half 4) (complemented (half 4) n))
   unfolding dateCell
-  date-negative h = rw (signed-complemented 2147483648 n (omega arith), less-below n 2147483648 h)
+  date-negative h = rw (signed-complemented (half 4) n (omega arith), less-below n (half 4) h)
 
-  module _ (small : n < 4294967296) (h : 2147483648 ≤ n) where
-    day : signed 2147483648 (complemented 2147483648 n) ≡ lib.IntN.pos (n - 2147483648)
-    day = signed-complemented 2147483648 n (omega arith) ∙ less-from n 2147483648 h
+  module _ (small : n < 256 ^ 4) (h : half 4 ≤ n) where
+    day : signed (half 4) (complemented (half 4) n) ≡ pos (n - half 4)
+    day = signed-complemented (half 4) n (omega arith) ∙ less-from n (half 4) h
 
-    pub date-early : n - 2147483648 < 36160 → Refused 11 ≡ dateCell (signed 2147483648 (complemented 2147483648 n))
+    pub date-early : n - (half 4) < leastDate → Refused noMeaning ≡ dateCell (signed (half 4) (complemented (half 4) n))
     unfolding dateCell
-    date-early l = rw (day, lt-leb 36160 (n - 2147483648) l)
+    date-early l = rw (day, lt-leb leastDate (n - half 4) l)
 
-    pub date-late : 3652059 < n - 2147483648 → Refused 11 ≡ dateCell (signed 2147483648 (complemented 2147483648 n))
+    pub date-late : mostDate < n - (half 4) → Refused noMeaning ≡ dateCell (signed (half 4) (complemented (half 4) n))
     unfolding dateCell
-    date-late l = rw (day, le-leb 36160 (n - 2147483648) (omega arith), lt-leb (n - 2147483648) 3652059 l)
+    date-late l = rw (day, le-leb leastDate (n - half 4) (omega arith), lt-leb (n - half 4) mostDate l)
 
-    pub date-is : 36160 ≤ n - 2147483648 → n - 2147483648 ≤ 3652059 → Is (Val.Date (n - 2147483648)) ≡ dateCell (signed 2147483648 (complemented 2147483648 n))
+    pub date-is : leastDate ≤ n - (half 4) → n - (half 4) ≤ mostDate → Is (Val.Date (n - half 4)) ≡ dateCell (signed (half 4) (complemented (half 4) n))
     unfolding dateCell
-    date-is l m = rw (day, le-leb 36160 (n - 2147483648) l, le-leb (n - 2147483648) 3652059 m)
+    date-is l m = rw (day, le-leb leastDate (n - half 4) l, le-leb (n - half 4) mostDate m)
 
 -- ---- text
 
 module _ (s : List ℕ) (at w l : ℕ) where
-  pub text-refused : allZero s (at + l) (w - l) ≡ false → Refused 11 ≡ textWith s at w l
+  pub text-refused : allZero s (at + l) (w - l) ≡ false → Refused noMeaning ≡ textWith s at w l
   unfolding textWith
   text-refused e = rw e
 
@@ -70,7 +73,7 @@ number-below s at w v bytes n e f = rw (f, ← e) (big-lt s at w bytes)
 
 -- ---- a cell, by its kind
 
-blob-value : (s : List ℕ) (at w : ℕ) (k : FieldKind) → isBlob k ≡ true → Refused 12 ≡ valueAt k s at w
+blob-value : (s : List ℕ) (at w : ℕ) (k : FieldKind) → isBlob k ≡ true → Refused blobCell ≡ valueAt k s at w
 unfolding isBlob valueAt
 blob-value s at w Kin.Text e = absurd (true≢false (sym e))
 blob-value s at w Kin.Date e = absurd (true≢false (sym e))
@@ -85,7 +88,7 @@ and-false true = refl
 and-false false = refl
 
 module _ (kind : FieldKind) (s : List ℕ) (at w : ℕ) where
-  pub cell-blob : isBlob kind ≡ true → Refused 12 ≡ cellAt kind s at w
+  pub cell-blob : isBlob kind ≡ true → Refused blobCell ≡ cellAt kind s at w
   unfolding cellAt
   cell-blob e = rw e (blob-value s at w kind e)
 
@@ -103,19 +106,19 @@ module _ (s : List ℕ) (at w : ℕ) (z : allZero s at w ≡ false) where
   unfolding valueAt
   cell-text = cell-value Kin.Text s at w z
 
-  pub cell-date : Permitted Kin.Date w → (n : ℕ) → n ≡ big s at w → dateCell (signed 2147483648 (complemented 2147483648 n)) ≡ cellAt Kin.Date s at w
+  pub cell-date : Permitted Kin.Date w → (n : ℕ) → n ≡ big s at w → dateCell (signed (half 4) (complemented (half 4) n)) ≡ cellAt Kin.Date s at w
   unfolding Permitted valueAt
   cell-date p n f = rw f (ap (λ (v : ℕ). dateCell (signed (half v) (complemented (half v) (big s at w)))) (sym p) ∙ cell-value Kin.Date s at w z)
 
-  pub cell-short : Permitted Kin.Short w → (n : ℕ) → n ≡ big s at w → Is (Val.Short (signed 32768 (complemented 32768 n))) ≡ cellAt Kin.Short s at w
+  pub cell-short : Permitted Kin.Short w → (n : ℕ) → n ≡ big s at w → Is (Val.Short (signed (half 2) (complemented (half 2) n))) ≡ cellAt Kin.Short s at w
   unfolding Permitted valueAt
   cell-short p n f = rw f (ap {B = Cell} (λ (v : ℕ). Is (Val.Short (signed (half v) (complemented (half v) (big s at w))))) (sym p) ∙ cell-value Kin.Short s at w z)
 
-  pub cell-long : Permitted Kin.Long w → (n : ℕ) → n ≡ big s at w → Is (Val.Long (signed 2147483648 (complemented 2147483648 n))) ≡ cellAt Kin.Long s at w
+  pub cell-long : Permitted Kin.Long w → (n : ℕ) → n ≡ big s at w → Is (Val.Long (signed (half 4) (complemented (half 4) n))) ≡ cellAt Kin.Long s at w
   unfolding Permitted valueAt
   cell-long p n f = rw f (ap {B = Cell} (λ (v : ℕ). Is (Val.Long (signed (half v) (complemented (half v) (big s at w))))) (sym p) ∙ cell-value Kin.Long s at w z)
 
-  pub cell-number : Permitted Kin.Number w → (n : ℕ) → n ≡ big s at w → numberCell (ofBits binary64 (complemented 9223372036854775808 n)) ≡ cellAt Kin.Number s at w
+  pub cell-number : Permitted Kin.Number w → (n : ℕ) → n ≡ big s at w → numberCell (ofBits binary64 (complemented (half 8) n)) ≡ cellAt Kin.Number s at w
   unfolding Permitted valueAt
   cell-number p n f = rw f (ap (λ (v : ℕ). numberCell (ofBits binary64 (complemented (half v) (big s at w)))) (sym p) ∙ cell-value Kin.Number s at w z)
 
@@ -126,21 +129,21 @@ module _ (s : List ℕ) (at w : ℕ) (z : allZero s at w ≡ false) where
 -- ---- by block, place and field
 
 module _ (t : List ℕ) (h : Header) (b p f : ℕ) where
-  pub block-none : hasBlock (shapeOf h) b ≡ false → Refused 13 ≡ blockCell t h b p f
+  pub block-none : hasBlock (shapeOf h) b ≡ false → Refused badArgument ≡ blockCell t h b p f
   unfolding blockCell
   block-none e = rw e
 
   module _ (here : hasBlock (shapeOf h) b ≡ true) where
-    pub block-missing : fieldOf t h f ≡ Fie.Missing → Refused 13 ≡ blockCell t h b p f
+    pub block-missing : fieldOf t h f ≡ Fie.Missing → Refused badArgument ≡ blockCell t h b p f
     unfolding blockCell fieldCell
     block-missing e = rw (here, e)
 
     module _ (kind : FieldKind) (width offset : ℕ) (e : fieldOf t h f ≡ Fie.Is kind width offset) where
-      pub block-bad : countIn t (shapeOf h) b ≡ Bad → Refused 9 ≡ blockCell t h b p f
+      pub block-bad : countIn t (shapeOf h) b ≡ Bad → Refused wrongCount ≡ blockCell t h b p f
       unfolding blockCell fieldCell placeCell
       block-bad k = rw (here, e, k)
 
-      pub block-short : (n : ℕ) → countIn t (shapeOf h) b ≡ Records n → n ≤ p → Refused 13 ≡ blockCell t h b p f
+      pub block-short : (n : ℕ) → countIn t (shapeOf h) b ≡ Records n → n ≤ p → Refused badArgument ≡ blockCell t h b p f
       unfolding blockCell fieldCell placeCell
       block-short n k l = rw (here, e, k, le-ltb p n l)
 
@@ -156,3 +159,8 @@ module _ (t : List ℕ) (b p f : ℕ) where
   pub cell-accepted : headerOf t .refusal ≡ 0 → blockCell t (headerOf t) b p f ≡ cellOf t b p f
   unfolding cellOf
   cell-accepted e = rw (eq-eqb (headerOf t .refusal) 0 e)
+
+  -- the cell is the definition's, and so are its number and value
+  pub answers : (c : Cell) → c ≡ cellOf t b p f → (c ≡ cellOf t b p f) × (answerOf t c ≡ readOf t b p f)
+  unfolding readOf
+  answers c e = (e, ap (answerOf t) e)

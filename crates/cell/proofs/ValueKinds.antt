@@ -1,6 +1,6 @@
 -- Which kind a value is of, and the width that it then has. Assumes nothing.
 use mathlib.Core.Path.{_≡_, refl, sym, ap, _∙_, subst}
-use mathlib.Core.Bool.{Bool, true, false, cond, _&&_, and-eq-true-iff}
+use mathlib.Core.Bool.{Bool, true, false, cond, _&&_}
 use mathlib.Core.List.{List}
 use Prim.Native.Nat.{ℕ, _+_, _-_}
 use lib.Dec.{eqb, leb}
@@ -11,12 +11,11 @@ use Rattle.words.proofs.Conjunctions.{both}
 use Rattle.header.specs.declared.kind.FieldKind.{FieldKind}
 use Rattle.header.specs.declared.kind.FieldKind.the-variants as Kin
 use Rattle.header.specs.Kinds.{Permitted}
-use Rattle.cell.specs.Values.{Content, nothing, blank, short, long, date, number, logical, text, contentOf}
+use Rattle.cell.specs.Values.{nothing, text, contentOf}
 use Rattle.cell.specs.Writing.{codeOf, ofKind}
-use Rattle.cell.specs.Steps.{OfWidth, TextInside}
+use Rattle.cell.specs.Steps.{TextInside}
 use Rattle.cell.specs.declared.value.Value.{Value}
 use Rattle.cell.specs.declared.value.Value.the-variants as Val
-use Rattle.cell.specs.declared.form.Coded.the-variants as Cod
 
 pub of-kind-text : (s : List ℕ) (start len : ℕ) (kind : FieldKind) → (leb (start + len) (length s) && eqb (codeOf kind) (codeOf Kin.Text)) ≡ ofKind (contentOf s (Val.Text start len)) kind
 unfolding contentOf ofKind

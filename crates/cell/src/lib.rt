@@ -14,7 +14,7 @@ ghost use mathlib.Core.Path.{_≡_};
 ghost use denote.Ref.{ptr};
 ghost use Rattle.header.specs.Rules.{Accepted};
 ghost use Rattle.cell.specs.Values.{answerOf, behind, contentOf, partOf, textOf};
-ghost use Rattle.cell.specs.Reading.{blockCell, cellOf};
+ghost use Rattle.cell.specs.Reading.{blockCell, cellOf, readOf};
 ghost use Rattle.cell.specs.Writing.{writeOf};
 use blocks::Count;
 use header::Field;
@@ -24,9 +24,9 @@ use header::StoredKind;
 use header::refusal;
 
 // The cell at a block, a place (from 0) and a field (from 1) of any bytes: its value, or the first of
-// 1 to 7, 13, 9, 13, 12 and 11 that applies. Whether the block is used is not judged.
+// 1 to 7, 13, 9, 13, 12 and 11 that applies. A free block is read like a used one.
 pub fn read(table: &[u8], block: usize, place: usize, field: usize) -> Cell
-    ensures { λ r. ⌜ r ≡ cellOf (now (table .entry)) block place field ⌝ }
+    ensures { λ r. ⌜ (r ≡ cellOf (now (table .entry)) block place field) × (answerOf (now (table .entry)) r ≡ readOf (now (table .entry)) block place field) ⌝ }
 {
     let h = header::read(table);
     if h.refusal != refusal::ACCEPTED {
@@ -62,9 +62,9 @@ fn read_in(table: &[u8], h: Header, block: usize, place: usize, field: usize) ->
     decode::cell_at(table, kind, at, width as usize)
 }
 
-// The text of a cell as the part of the table it is, bytes and place; empty where `read` gives no text.
+// The text of a cell as the part of the table it is, bytes and address; empty where `read` gives no text.
 pub fn text(table: &[u8], block: usize, place: usize, field: usize) -> &[u8]
-    ensures { λ r. ⌜ (now r ≡ textOf (answerOf (now (table .entry)) (cellOf (now (table .entry)) block place field) .1)) × (ptr r ≡ behind (ptr (table .entry)) (partOf (cellOf (now (table .entry)) block place field) .start)) ⌝ }
+    ensures { λ r. ⌜ (now r ≡ textOf (readOf (now (table .entry)) block place field .1)) × (ptr r ≡ behind (ptr (table .entry)) (partOf (cellOf (now (table .entry)) block place field) .start)) ⌝ }
 {
     let part = part::text_part(read(table, block, place, field));
     let start = part.start;
@@ -72,9 +72,9 @@ pub fn text(table: &[u8], block: usize, place: usize, field: usize) -> &[u8]
     &table[start..end]
 }
 
-// Writes a value as a cell of a type code and width into the first `width` bytes of a buffer. A text is
-// the part of `text` that its value names. Answers 0, or the first of 13, 12, 14 and 11 that applies and
-// leaves the buffer as it was; the bytes past the width never change.
+// Writes a value as a cell of this type code and width to the front of a buffer. A text is the part of
+// `text` that the value names; 13 where there is no such part. Answers 0, or the first of 13, 12, 14 and
+// 11 that applies, and then the buffer is as it was. Behind the width no byte is touched.
 pub fn write(code: u8, width: usize, value: Value, text: &[u8], buffer: &mut [u8]) -> u8
     ensures { λ r. ⌜ (r, now (buffer .exit)) ≡ writeOf code width (contentOf (now (text .entry)) value) (now (buffer .entry)) ⌝ }
 {

@@ -7,7 +7,7 @@ use lib.ListN.{length, take, drop}
 use Rattle.words.specs.Order.{range}
 use Rattle.cell.specs.Values.{partOf, behind}
 use Rattle.cell.specs.declared.part.Part.{Part}
-use Rattle.cell.proofs.PlaceLaws.{part-inside, part-text}
+use Rattle.cell.proofs.PlaceLaws.{part-inside, text-bytes}
 use Rattle.cell.specs.Reading.{cellOf}
 use Rattle.cell.proofs.text.Statement.{statement}
 use Rattle.cell.proofs.text.Tie as tie
@@ -20,7 +20,7 @@ text-part-requires c κs = search needs
 
 -- the part of the definition's cell
 is : (c : tie.After-struct-known) → let v = c .before .before .before .before .args in c .before .text-part .result ≡ partOf (cellOf (v .table .now) (v .block) (v .place) (v .field))
-is c = c .before .text-part .ensures ∙ ap partOf (c .before .before .read .ensures)
+is c = c .before .text-part .ensures ∙ ap partOf (c .before .before .read .ensures .0)
 
 inside : (c : tie.After-struct-known) → let r = c .before .text-part .result in r .start + r .len ≤ length (c .before .before .before .before .args .table .now)
 inside c =
@@ -48,7 +48,7 @@ returns c =
     let l : r .start + r .len - r .start ≡ r .len = omega arith in (
       ap (λ (n : ℕ). take n (drop (r .start) (v .table .now))) l
           ∙ ap (λ (q : Part). range (v .table .now) (q .start) (q .len)) e
-          ∙ part-text (v .table .now) x (part-inside (v .table .now) (v .block) (v .place) (v .field)),
+          ∙ text-bytes (v .table .now) (v .block) (v .place) (v .field),
       ap (λ (q : Part). behind (v .table .ptr) (q .start)) e,
     )
 
