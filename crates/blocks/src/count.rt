@@ -9,7 +9,7 @@ use crate::BLOCK_HEAD;
 use crate::Shape;
 use crate::block_at;
 
-// A word from here on is a signed number below 0, and so much less than 65,536.
+// A word from here on is a signed number below 0: as far below as the word is below WORD_VALUES.
 const LEAST_NEGATIVE: u16 = 32768;
 
 const WORD_VALUES: u32 = 65536;
@@ -23,7 +23,7 @@ pub enum Count {
     Bad,
 }
 
-// The count by the offset of the last record, for a record size that a block has room for.
+// The count by the offset of the last record, of a record size that is not 0 and a block with a head.
 pub fn count_of(last: u16, size: u16, block: u16) -> Count
     requires { ⌜ (1 ≤ size) × (blockHead ≤ block) ⌝ }
     ensures { λ r. ⌜ r ≡ countOf block size (signed (half 2) last) ⌝ }
@@ -44,11 +44,11 @@ pub fn count_of(last: u16, size: u16, block: u16) -> Count
     Count::Records(last / size + 1)
 }
 
-// The count of block `b` of a file.
-pub fn count_in(t: &[u8], g: Shape, b: usize) -> Count
-    requires { ⌜ (1 ≤ b) × (b ≤ g .blocks) × Sound (now t) g ⌝ }
-    ensures { λ r. ⌜ r ≡ countIn (now (t .entry)) g b ⌝ }
+// The count of a block of a file.
+pub fn count_in(file: &[u8], shape: Shape, block: usize) -> Count
+    requires { ⌜ (1 ≤ block) × (block ≤ shape .blocks) × Sound (now file) shape ⌝ }
+    ensures { λ r. ⌜ r ≡ countIn (now (file .entry)) shape block ⌝ }
 {
-    let last = words::word(t, block_at(g, b) + LAST_RECORD);
-    count_of(last, g.size, g.block)
+    let last = words::word(file, block_at(shape, block) + LAST_RECORD);
+    count_of(last, shape.size, shape.block)
 }

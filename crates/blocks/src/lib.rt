@@ -1,5 +1,5 @@
 // A file of blocks, data table or index alike: its shape, and where a block and a record begin.
-// The functions are helpers of the crates above: each `requires` says that the block is in the file.
+// The functions are helpers of the crates above, which have judged the file's sizes and the block's number.
 mod count;
 
 pub use count::Count;
@@ -11,7 +11,7 @@ ghost use Rattle.blocks.specs.Shape.{blockAt, hasBlock, recordAt, shapeO
 use header::Header;
 
 // What a block begins with: the next block, the previous one, and the offset of the last record.
-const BLOCK_HEAD: usize = 6;
+const BLOCK_HEAD: usize = header::BLOCK_HEAD as usize;
 
 // The shape of a file of blocks. Sizes are in bytes.
 pub struct Shape {
@@ -37,24 +37,24 @@ pub fn shape_of(h: Header) -> Shape
 }
 
 // Whether the file has a block of this number; blocks count from 1.
-pub fn has_block(g: Shape, b: usize) -> bool
-    ensures { λ r. ⌜ r ≡ hasBlock g b ⌝ }
+pub fn has_block(shape: Shape, block: usize) -> bool
+    ensures { λ r. ⌜ r ≡ hasBlock shape block ⌝ }
 {
-    (1 <= b) & (b <= g.blocks as usize)
+    (1 <= block) & (block <= shape.blocks as usize)
 }
 
-// Where block `b` begins.
-pub fn block_at(g: Shape, b: usize) -> usize
-    requires { ⌜ (1 ≤ b) × (b ≤ g .blocks) ⌝ }
-    ensures { λ r. ⌜ r ≡ blockAt g b ⌝ }
+// Where a block begins.
+pub fn block_at(shape: Shape, block: usize) -> usize
+    requires { ⌜ (1 ≤ block) × (block ≤ shape .blocks) ⌝ }
+    ensures { λ r. ⌜ r ≡ blockAt shape block ⌝ }
 {
-    g.header as usize + (b - 1) * g.block as usize
+    shape.header as usize + (block - 1) * shape.block as usize
 }
 
-// Where the record at place `i` of block `b` begins; places count from 0.
-pub fn record_at(g: Shape, b: usize, i: usize) -> usize
-    requires { ⌜ (1 ≤ b) × (b ≤ g .blocks) × (i < 65536) ⌝ }
-    ensures { λ r. ⌜ r ≡ recordAt g b i ⌝ }
+// Where the record at a place of a block begins; places count from 0, and a count fits 16 bits.
+pub fn record_at(shape: Shape, block: usize, place: usize) -> usize
+    requires { ⌜ (1 ≤ block) × (block ≤ shape .blocks) × (place < 65536) ⌝ }
+    ensures { λ r. ⌜ r ≡ recordAt shape block place ⌝ }
 {
-    block_at(g, b) + BLOCK_HEAD + i * g.size as usize
+    block_at(shape, block) + BLOCK_HEAD + place * shape.size as usize
 }

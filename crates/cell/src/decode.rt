@@ -31,7 +31,7 @@ fn long_of(n: u64) -> i32
     (n as i64 - limits::LONG_TOP) as i32
 }
 
-// A date: as a long, and a day of the calendar.
+// A date: the number of a long, from LEAST_DATE to MOST_DATE.
 fn date_of(n: u64) -> Cell
     requires { ⌜ n < 4294967296 ⌝ }
     ensures { λ r. ⌜ r ≡ dateCell (signed (half 4) (complemented (half 4) n)) ⌝ }
@@ -60,7 +60,7 @@ fn number_of(n: u64) -> Cell
     Cell::Is(Value::Number(f64::from_bits(bits)))
 }
 
-// A logical: two bytes have a meaning.
+// A logical: FALSE or TRUE.
 fn logical_of(n: u64) -> Cell
     ensures { λ r. ⌜ r ≡ logicalCell n ⌝ }
 {
@@ -85,7 +85,7 @@ fn text_at(t: &[u8], at: usize, width: usize) -> Cell
     Cell::Is(Value::Text { start: at, len })
 }
 
-// The meaning of the `width` bytes at `at`.
+// The meaning of the `width` bytes at `at`. The last arm is not reached: blobs are refused first.
 pub fn cell_at(t: &[u8], kind: FieldKind, at: usize, width: usize) -> Cell
     requires { ⌜ Permitted kind width × (at + width ≤ length (now t)) ⌝ }
     ensures { λ r. ⌜ r ≡ cellAt kind (now (t .entry)) at width ⌝ }

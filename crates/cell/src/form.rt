@@ -35,7 +35,7 @@ pub fn long_form(z: i32) -> Coded
     Coded::Number((z as i64 + limits::LONG_TOP) as u64)
 }
 
-// A date: a day of the calendar, stored as a long.
+// A date: a day from LEAST_DATE to MOST_DATE, stored as a long.
 pub fn date_form(day: u32) -> Coded
     ensures { λ r. ⌜ codedForm 4 r ≡ dateForm 4 day ⌝ }
 {

@@ -1,6 +1,6 @@
 // What a cell holds.
 
-// A value. A date is a day number, with 1 January 0001 as 1. A text is a part of lent bytes: of the
+// A value. A date is a day number, counted from 1 January 0001, which is day 1. A text is a part of lent bytes: of the
 // table where it is read, of the bytes lent beside it where it is written.
 pub enum Value {
     Blank,

@@ -66,7 +66,7 @@ knownVersion s = leb leastVersion (s .version) && leb (s .version) mostVersion
 unfoldable pub unencrypted : List ℕ → ℕ → Bool
 unencrypted t at = allZero t at 4
 
--- 5: byte 04 is 0 exactly when there are key fields, and then the sort byte is 0, plain byte order
+-- 5: with key fields byte 04 and the sort byte are 0 (keyed, plain byte order); without them byte 04 is not 0
 unfoldable pub keyedRight : Stored → Bool
 keyedRight s = cond (leb 1 (s .keys)) (eqb (s .kind) 0 && eqb (s .sort) 0) (not (eqb (s .kind) 0))
 
@@ -104,7 +104,7 @@ headerAnswer t =
 
 -- ---- the answer
 
--- a refusal carries its number only: every other number is 0
+-- a refusal has its number and no other: the rest is 0
 unfoldable pub refusedWith : ℕ → Header
 refusedWith number =
     record {

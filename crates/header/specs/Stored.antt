@@ -41,6 +41,6 @@ encryptionAt version = cond (early version) 0x25 0x5C
 abbrev pub areaAt : ℕ → ℕ
 areaAt version = cond (early version) 0x58 0x78
 
--- the names begin 6n + 83 bytes after the start of the field area
+-- from the start of the field area of n fields it is 6n + 83 bytes to the first name
 abbrev pub namesAt : Stored → ℕ
 namesAt s = areaAt (s .version) + (6 * s .fields + 83)

@@ -27,7 +27,7 @@ const MOST_VERSION: u8 = 0x0b;
 
 const MOST_UNITS: u8 = 4;
 
-const BLOCK_HEAD: u32 = 6;
+pub const BLOCK_HEAD: u32 = 6;
 
 const MOST_BLOCKS: u16 = 32767;
 

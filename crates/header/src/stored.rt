@@ -47,7 +47,7 @@ const EARLY_AREA: u16 = 0x58;
 
 const AREA: u16 = 0x78;
 
-// For n fields the names begin 6n + 83 bytes after the start of the field area.
+// From the start of the field area of n fields it is 6n + 83 bytes to the first name.
 const NAMES_AFTER: u16 = 83;
 
 const NAMES_PER_FIELD: u16 = 6;

@@ -1,5 +1,5 @@
-// Numbers and byte order as the files have them: words in headers and block heads are little-endian,
-// numbers in cells and index entries big-endian, keys compare byte by byte.
+// Numbers and byte order as the files have them: headers and block heads hold the low byte first, cells
+// and index entries the high byte first, and keys compare byte by byte.
 // The functions are helpers of the crates above: each `requires` says where its bytes stand.
 mod zeros;
 

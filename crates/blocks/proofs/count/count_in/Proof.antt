@@ -16,11 +16,11 @@ block-at-requires : tie.Need-block-at-requires
 block-at-requires c κs = search needs
 
 -- the block's head is inside the file
-inside : (c : tie.After-block-at) → let v = c .before .before .args in blockAt (v .g) (v .b) + 6 ≤ length (v .t .now)
+inside : (c : tie.After-block-at) → let v = c .before .before .args in blockAt (v .shape) (v .block) + 6 ≤ length (v .file .now)
 inside c =
     let v = c .before .before .args in
     let p = c .before .before .pre in
-    omega (arith, block-inside (v .t .now) (v .g) (p .2) (v .b) (p .0) (p .1), p .2 .size-most)
+    omega (arith, block-inside (v .file .now) (v .shape) (p .2) (v .block) (p .0) (p .1), p .2 .size-most)
 
 add-word : tie.Need-add-word
 add-word c = omega (arith, c .block-at .ensures, inside c)
@@ -36,7 +36,7 @@ unfolding countIn
 returns c =
     let v = c .before .before .before .before .args in
     c .count-of .ensures
-    ∙ ap (λ (n : ℕ). countOf (v .g .block) (v .g .size) (signed 32768 n)) (c .before .word .ensures ∙ ap (λ (a : ℕ). word (v .t .now) (a + 4)) (c .before .before .block-at .ensures))
+    ∙ ap (λ (n : ℕ). countOf (v .shape .block) (v .shape .size) (signed 32768 n)) (c .before .word .ensures ∙ ap (λ (a : ℕ). word (v .file .now) (a + 4)) (c .before .before .block-at .ensures))
 
 pub count-in-spec : {M : Type 1} → statement M
 count-in-spec =
