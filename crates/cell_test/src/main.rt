@@ -2,6 +2,7 @@
 mod codes;
 mod columns;
 mod counts;
+mod early;
 mod print;
 mod reads;
 mod refusals;
@@ -18,6 +19,7 @@ fn main() {
     counts::run();
     reads::run();
     refusals::run();
+    early::run();
     values::run();
     codes::run();
     rooms::run();
