@@ -3,6 +3,7 @@ use mathlib.Core.Path.{_≡_, refl, sym, ap, _∙_, subst}
 use mathlib.Core.Bool.{Bool, true, false, cond, _&&_}
 use mathlib.Core.List.{List}
 use Prim.Native.Nat.{ℕ, _+_, _-_}
+use native.Mathlib.Omega.{arith}
 use lib.Dec.{eqb, leb}
 use lib.ListN.{length}
 use borrow.Author.Tests.{leb-true, eqb-true}
@@ -11,7 +12,7 @@ use Rattle.words.proofs.Conjunctions.{both}
 use Rattle.header.specs.declared.kind.FieldKind.{FieldKind}
 use Rattle.header.specs.declared.kind.FieldKind.the-variants as Kin
 use Rattle.header.specs.Kinds.{Permitted}
-use Rattle.cell.specs.Values.{nothing, text, contentOf}
+use Rattle.cell.specs.Values.{valuePart, nothing, text, contentOf}
 use Rattle.cell.specs.Writing.{codeOf, ofKind}
 use Rattle.cell.specs.Steps.{TextInside}
 use Rattle.cell.specs.declared.value.Value.{Value}
@@ -53,12 +54,12 @@ pub same-width : (kind other : FieldKind) (w : ℕ) → eqb (codeOf kind) (codeO
 same-width kind other w e p = subst (λ (k : FieldKind). Permitted k w) (same-kind kind other e) p
 
 pub of-kind-inside : (s : List ℕ) (v : Value) (kind : FieldKind) → ofKind (contentOf s v) kind ≡ true → TextInside s v
-unfolding TextInside
-of-kind-inside s Val.Blank kind e = tt
-of-kind-inside s (Val.Short z) kind e = tt
-of-kind-inside s (Val.Long z) kind e = tt
-of-kind-inside s (Val.Date d) kind e = tt
-of-kind-inside s (Val.Number x) kind e = tt
-of-kind-inside s (Val.Logical b) kind e = tt
+unfolding valuePart
+of-kind-inside s Val.Blank kind e = omega arith
+of-kind-inside s (Val.Short z) kind e = omega arith
+of-kind-inside s (Val.Long z) kind e = omega arith
+of-kind-inside s (Val.Date d) kind e = omega arith
+of-kind-inside s (Val.Number x) kind e = omega arith
+of-kind-inside s (Val.Logical b) kind e = omega arith
 of-kind-inside s (Val.Text start len) kind e =
     leb-true (start + len) (length s) (both {a = leb (start + len) (length s)} {b = eqb (codeOf kind) (codeOf Kin.Text)} (of-kind-text s start len kind ∙ e) .0)

@@ -7,10 +7,9 @@ use lib.ListN.{length}
 use Rattle.words.specs.Numbers.{digits}
 use Rattle.header.specs.Kinds.{Permitted}
 use Rattle.header.specs.declared.kind.FieldKind.{FieldKind}
-use Rattle.cell.specs.Values.{Content}
+use Rattle.cell.specs.Values.{Content, valuePart}
 use Rattle.cell.specs.Writing.{Form, none, bytes, ofKind}
 use Rattle.cell.specs.declared.value.Value.{Value}
-use Rattle.cell.specs.declared.value.Value.the-variants as Val
 use Rattle.cell.specs.declared.form.Coded.{Coded}
 use Rattle.cell.specs.declared.form.Coded.the-variants as Cod
 
@@ -24,11 +23,5 @@ abbrev pub OfWidth : Content → ℕ → Type 0
 OfWidth c w = (kind : FieldKind) × (ofKind c kind ≡ true) × Permitted kind w
 
 -- a value's text is a part of the bytes lent for it
-unfoldable pub TextInside : List ℕ → Value → Type 0
-TextInside s Val.Blank = Unit {0}
-TextInside s (Val.Short z) = Unit {0}
-TextInside s (Val.Long z) = Unit {0}
-TextInside s (Val.Date d) = Unit {0}
-TextInside s (Val.Number x) = Unit {0}
-TextInside s (Val.Logical b) = Unit {0}
-TextInside s (Val.Text start len) = start + len ≤ length s
+abbrev pub TextInside : List ℕ → Value → Type 0
+TextInside s v = valuePart v .start + valuePart v .len ≤ length s

@@ -3,6 +3,7 @@ use borrow.Author.Needs.{needs}
 use mathlib.Core.Path.{_≡_, ap, _∙_, subst}
 use Prim.Native.Nat.{ℕ, _+_, _-_, _≤_}
 use lib.ListN.{length}
+use Rattle.cell.specs.Values.{valuePart}
 use Rattle.cell.specs.Writing.{Form, putForm, signedForm}
 use Rattle.cell.specs.Steps.{TextInside}
 use Rattle.cell.specs.declared.value.Value.{Value}
@@ -13,7 +14,7 @@ use Rattle.cell.proofs.put.put_value.Tie as tie
 
 -- a text is a part of the bytes lent for it
 lent : (c : tie.Start) (start len : ℕ) → c .args .value ≡ Val.Text start len → start + len ≤ length (c .args .text .now)
-unfolding TextInside
+unfolding valuePart
 lent c start len e = subst (λ (v : Value). TextInside (c .args .text .now) v) e (c .pre .2)
 
 enum-told : tie.Need-enum-told
