@@ -2,7 +2,7 @@
 use mathlib.Core.Path.{_≡_, refl, sym, ap, _∙_, subst}
 use mathlib.Core.Bool.{Bool, true, false, cond, _&&_}
 use mathlib.Core.List.{List}
-use Prim.Native.Nat.{ℕ, _+_, _-_}
+use Prim.Native.Nat.{ℕ, _+_}
 use native.Mathlib.Omega.{arith}
 use lib.Dec.{eqb, leb}
 use lib.ListN.{length}
@@ -18,6 +18,7 @@ use Rattle.cell.specs.Steps.{TextInside}
 use Rattle.cell.specs.declared.value.Value.{Value}
 use Rattle.cell.specs.declared.value.Value.the-variants as Val
 
+-- a text is of the text kind, where it is a part of the lent bytes
 pub of-kind-text : (s : List ℕ) (start len : ℕ) (kind : FieldKind) → (leb (start + len) (length s) && eqb (codeOf kind) (codeOf Kin.Text)) ≡ ofKind (contentOf s (Val.Text start len)) kind
 unfolding contentOf ofKind
 of-kind-text s start len kind = go (leb (start + len) (length s))
@@ -26,15 +27,15 @@ of-kind-text s start len kind = go (leb (start + len) (length s))
     go true = refl
     go false = refl
 
--- a code belongs to one kind
+-- the kind of a code of `codeOf`
 kindWith : ℕ → FieldKind
 kindWith code =
-    cond (eqb code 0x01) Kin.Text
-    (cond (eqb code 0x02) Kin.Date
-    (cond (eqb code 0x03) Kin.Short
-    (cond (eqb code 0x04) Kin.Long
-    (cond (eqb code 0x06) Kin.Number
-    (cond (eqb code 0x09) Kin.Logical Kin.Blob)))))
+    cond (eqb code (codeOf Kin.Text)) Kin.Text
+    (cond (eqb code (codeOf Kin.Date)) Kin.Date
+    (cond (eqb code (codeOf Kin.Short)) Kin.Short
+    (cond (eqb code (codeOf Kin.Long)) Kin.Long
+    (cond (eqb code (codeOf Kin.Number)) Kin.Number
+    (cond (eqb code (codeOf Kin.Logical)) Kin.Logical Kin.Blob)))))
 
 kind-with : (kind : FieldKind) → kindWith (codeOf kind) ≡ kind
 unfolding kindWith
@@ -46,6 +47,7 @@ kind-with Kin.Number = refl
 kind-with Kin.Logical = refl
 kind-with Kin.Blob = refl
 
+-- kinds with the same code are the same
 pub same-kind : (kind other : FieldKind) → eqb (codeOf kind) (codeOf other) ≡ true → kind ≡ other
 same-kind kind other e = sym (kind-with kind) ∙ ap kindWith (eqb-true (codeOf kind) (codeOf other) e) ∙ kind-with other
 
@@ -53,6 +55,7 @@ same-kind kind other e = sym (kind-with kind) ∙ ap kindWith (eqb-true (codeOf 
 pub same-width : (kind other : FieldKind) (w : ℕ) → eqb (codeOf kind) (codeOf other) ≡ true → Permitted kind w → Permitted other w
 same-width kind other w e p = subst (λ (k : FieldKind). Permitted k w) (same-kind kind other e) p
 
+-- a value of a kind has its text inside the lent bytes
 pub of-kind-inside : (s : List ℕ) (v : Value) (kind : FieldKind) → ofKind (contentOf s v) kind ≡ true → TextInside s v
 unfolding valuePart
 of-kind-inside s Val.Blank kind e = omega arith

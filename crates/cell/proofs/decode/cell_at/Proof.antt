@@ -2,7 +2,6 @@
 use borrow.Author.Needs.{needs}
 use native.Mathlib.Omega.{arith}
 use mathlib.Core.Path.{_≡_, sym, ap, _∙_, subst}
-use Prim.Native.Nat.{_-_}
 use mathlib.Core.Bool.{false}
 use lib.IntN.{ℤ}
 use mir.Syntax.{w16, w32}

@@ -1,7 +1,7 @@
 -- `put_value` meets its contract, case by case. Assumes nothing.
 use borrow.Author.Needs.{needs}
 use mathlib.Core.Path.{_≡_, ap, _∙_, subst}
-use Prim.Native.Nat.{ℕ, _+_, _-_, _≤_}
+use Prim.Native.Nat.{ℕ, _+_, _≤_}
 use lib.ListN.{length}
 use Rattle.cell.specs.Values.{valuePart}
 use Rattle.cell.specs.Writing.{Form, putForm, signedForm}
