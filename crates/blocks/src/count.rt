@@ -1,4 +1,5 @@
 // The count rule: how many records a block holds, by the third word of its head.
+// The functions are helpers of the crates above, which have judged the sizes and the block's number.
 ghost use mathlib.Core.Path.{_≡_};
 ghost use Prim.Native.Nat.{_≤_};
 ghost use Rattle.words.specs.Signed.{half, signed};
