@@ -6,6 +6,7 @@ pub mod PlaceLaws
 pub mod ReadingLaws
 pub mod RoundTrip
 pub mod SignedCasts
+pub mod TableRoundTrip
 pub mod ValueKinds
 pub mod Vectors
 pub mod WritingLaws

@@ -4,7 +4,7 @@ use mathlib.Core.Path.{_≡_, refl, sym, ap, _∙_, subst}
 use mathlib.Core.Bool.{Bool, true, false, cond, not, _&&_, true≢false}
 use mathlib.Core.List.{List, [], _++_}
 use mathlib.Core.Logic.{_⊎_, inl, inr, ⊎-elim}
-use Prim.Native.Nat.{ℕ, suc, _+_, _-_, _*_, _≤_, _<_, _^_}
+use Prim.Native.Nat.{ℕ, suc, _+_, _-_, _≤_, _<_, _^_}
 use native.Mathlib.Omega.{arith}
 use lib.Dec.{leb, ltb}
 use lib.IntN.{ℤ, pos, negsuc}
@@ -14,7 +14,7 @@ use lib.Ieee.Scale.{finite}
 use lib.ListN.{length, drop, replicate, length-append, length-replicate}
 use lib.Seq.{drop-at, length-front, length-take-le}
 use borrow.Author.Tests.{leb-true, ne-eqb, eqb-false}
-use Rattle.words.specs.Numbers.{byte, Bytes, big, digits}
+use Rattle.words.specs.Numbers.{Bytes, big, digits}
 use Rattle.words.specs.Signed.{half, complemented}
 use Rattle.words.specs.Zeros.{allZero, beforeZero}
 use Rattle.words.specs.Order.{range}
@@ -27,17 +27,13 @@ use Rattle.header.specs.declared.kind.FieldKind.{FieldKind}
 use Rattle.header.specs.declared.kind.FieldKind.the-variants as Kin
 use Rattle.header.specs.declared.kind.StoredKind.{StoredKind}
 use Rattle.header.specs.declared.kind.StoredKind.the-variants.{Kind, Unknown}
-use Rattle.header.specs.Header.{headerOf}
-use Rattle.header.specs.Fields.{widthAt, widthSum}
-use Rattle.blocks.specs.Shape.{shapeOf, recordAt}
 use Rattle.header.proofs.KindLaws.{kind-width}
 use Rattle.cell.specs.Values.{Held, Content, nothing, blank, short, long, date, number, logical, text, contentOf, answerOf}
-use Rattle.cell.specs.Reading.{falseByte, trueByte, isDate, signedAt, doubleAt, valueAt, cellAt, cellOf}
+use Rattle.cell.specs.Reading.{falseByte, trueByte, isDate, signedAt, doubleAt, valueAt, cellAt}
 use Rattle.cell.specs.Writing.{Form, none, bytes, minusZero, signedForm, dateForm, numberForm, formOf, ofKind, putForm, putValue, writeKind, writeStored, writeOf}
 use Rattle.cell.specs.declared.value.Value.{Value}
 use Rattle.cell.specs.declared.value.Value.the-variants as Val
 use Rattle.cell.specs.declared.value.Cell.the-variants.{Is}
-use Rattle.cell.proofs.PlaceLaws.{stands}
 use Rattle.cell.proofs.ReadingLaws.{no-cell}
 use Rattle.cell.proofs.ValueKinds.{same-kind}
 use Rattle.cell.proofs.WritingLaws.{write-form}
@@ -295,16 +291,3 @@ read-held kind s at w v h =
     (λ (c : (allZero s at w ≡ true) × (v ≡ Val.Blank)). rw (c .1) tt)
     (λ (c : (allZero s at w ≡ false) × (valueAt kind s at w ≡ Is v)). value-held kind s at w v (c .1))
     (read-as kind s at w v h .1)
-
--- the cell at a block, place and field of a table that reads as a value, written by its field's stored pair, gives its bytes: those
--- behind the fields before it in its record
-pub table-then-write : (t : List ℕ) (b p f : ℕ) (v : Value) (buffer : List ℕ) → Bytes t → cellOf t b p f ≡ Is v
-    → (let area = headerOf t .area in
-    let width = widthAt t area (f - 1) in
-    let at = recordAt (shapeOf (headerOf t)) b p + widthSum t area (f - 1) in
-    width ≤ length buffer → writeOf (byte t (area + 2 * (f - 1))) width (contentOf t v) buffer ≡ (0, range t at width ++ drop width buffer))
-table-then-write t b p f v buffer all e fit =
-    let s = stands t b p f v e in
-    let k = s .wide in
-    let a = s .begins in
-    rw (← k, ← a) (read-then-write (byte t (headerOf t .area + 2 * (f - 1))) (s .kind) (s .width) t (s .at) v buffer (s .stored) all (s .inside) (s .means) (rw k fit))

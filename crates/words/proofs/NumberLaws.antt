@@ -1,6 +1,6 @@
 -- Laws of numbers of w bytes, each once over the width: a number is below 256 ^ w, its bytes by name, and how two numbers join.
 -- Assumes nothing.
-use mathlib.Core.Path.{_≡_, sym}
+use mathlib.Core.Path.{_≡_, refl, sym}
 use mathlib.Core.List.{List}
 use Prim.Native.Nat.{ℕ, zero, suc, _+_, _*_, _^_, _≤_, _<_}
 use native.Mathlib.Nat.{pow-suc, pow-le-pow-right, mul-le-mul-left, mul-add, mul-assoc, add-zero, add-suc, add-assoc, lt-of-lt-of-le}
@@ -51,3 +51,9 @@ little-join s at v (suc w) =
 pub big-step : (s : List ℕ) (at i : ℕ) → big s at (i + 1) ≡ big s at i * 256 + byte s (at + i)
 unfolding big
 big-step s at i = rw add-one
+
+-- the same bytes make the same number
+pub big-same : (s t : List ℕ) (at to w : ℕ) → ((i : ℕ) → i < w → byte s (at + i) ≡ byte t (to + i)) → big s at w ≡ big t to w
+unfolding big
+big-same s t at to zero h = refl
+big-same s t at to (suc w) h = rw (big-same s t at to w (λ i l. h i (omega arith)), h w (omega arith))

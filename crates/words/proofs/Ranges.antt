@@ -1,13 +1,13 @@
 -- A range of bytes: its length, its bytes and its parts; and two ranges, compared a byte at a time. Assumes nothing.
 use Prim.Native.Nat.{ℕ, suc, _+_, _-_, _≤_, _<_}
-use mathlib.Core.Path.{_≡_, ap, _∙_}
+use mathlib.Core.Path.{_≡_, sym, ap, _∙_}
 use mathlib.Core.List.{List, [], _∷_, _++_}
 use mathlib.Core.Bool.{cond}
 use native.Mathlib.Nat.{sub-zero, add-zero, sub-self}
 use native.Mathlib.Omega.{arith}
 use lib.Dec.{ltb}
 use lib.ListN.{length, take, drop, length-drop}
-use lib.Seq.{drop-cons, drop-drop, getD-drop, getD-take, length-take-le, take-add}
+use lib.Seq.{ext-getD, drop-cons, drop-drop, getD-drop, getD-take, length-take-le, take-add}
 use borrow.Author.Tests.{lt-ltb, le-ltb}
 use Rattle.words.specs.Numbers.{byte}
 use Rattle.words.specs.Order.{order, range}
@@ -26,6 +26,13 @@ range-byte s at n i h = getD-take n (drop at s) i 0 h ∙ getD-drop at s i 0
 -- a range of n + m bytes is one of n and, behind it, one of m
 pub range-join : (s : List ℕ) (at n m : ℕ) → range s at (n + m) ≡ range s at n ++ range s (at + n) m
 range-join s at n m = take-add n m (drop at s) ∙ ap (λ (l : List ℕ). range s at n ++ take m l) (drop-drop n at s)
+
+-- ranges with the same bytes are the same
+pub range-same : (s t : List ℕ) (at to n : ℕ) → at + n ≤ length s → to + n ≤ length t → ((i : ℕ) → i < n → byte s (at + i) ≡ byte t (to + i)) → range s at n ≡ range t to n
+range-same s t at to n k l h =
+    let a = range-length s at n k in
+    ext-getD 0 (range s at n) (range t to n) (a ∙ sym (range-length t to n l))
+    (λ i m. let b : i < n = rw (← a) m in range-byte s at n i b ∙ h i b ∙ sym (range-byte t to n i b))
 
 -- ---- two ranges
 

@@ -94,6 +94,12 @@ before-same s t at to (suc m) h =
     rw (p, q) (h (suc i) (omega arith))) in
     rw (e, f)
 
+-- and are all zero or not alike
+pub zero-same : (s t : List ℕ) (at to n : ℕ) → ((i : ℕ) → i < n → byte s (at + i) ≡ byte t (to + i)) → allZero s at n ≡ allZero t to n
+unfolding each
+zero-same s t at to zero h = refl
+zero-same s t at to (suc n) h = rw (zero-same s t at to n (λ i l. h i (omega arith)), h n (omega arith))
+
 -- ---- a number whose bytes are all zero
 
 pub zero-number : (s : List ℕ) (at w : ℕ) → allZero s at w ≡ eqb (big s at w) 0
