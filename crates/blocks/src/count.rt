@@ -24,7 +24,8 @@ pub enum Count {
     Bad,
 }
 
-// The count by the offset of the last record, of a record size that is not 0 and a block with a head.
+// The count by the offset of the last record. A helper: its caller has judged that the record size is not
+// 0 and that a block has room for a head.
 pub fn count_of(last: u16, size: u16, block: u16) -> Count
     requires { ⌜ (1 ≤ size) × (blockHead ≤ block) ⌝ }
     ensures { λ r. ⌜ r ≡ countOf block size (signed (half 2) last) ⌝ }
@@ -45,7 +46,7 @@ pub fn count_of(last: u16, size: u16, block: u16) -> Count
     Count::Records(last / size + 1)
 }
 
-// The count of a block of a file.
+// The count of a block of a file. A helper: its caller has judged the file's sizes and found the block in it.
 pub fn count_in(file: &[u8], shape: Shape, block: usize) -> Count
     requires { ⌜ (1 ≤ block) × (block ≤ shape .blocks) × Sound (now file) shape ⌝ }
     ensures { λ r. ⌜ r ≡ countIn (now (file .entry)) shape block ⌝ }

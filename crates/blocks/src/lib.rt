@@ -43,7 +43,7 @@ pub fn has_block(shape: Shape, block: usize) -> bool
     (1 <= block) & (block <= shape.blocks as usize)
 }
 
-// Where a block begins.
+// Where a block begins. A helper: its caller has found the block in the file.
 pub fn block_at(shape: Shape, block: usize) -> usize
     requires { ⌜ (1 ≤ block) × (block ≤ shape .blocks) ⌝ }
     ensures { λ r. ⌜ r ≡ blockAt shape block ⌝ }
@@ -51,7 +51,8 @@ pub fn block_at(shape: Shape, block: usize) -> usize
     shape.header as usize + (block - 1) * shape.block as usize
 }
 
-// Where the record at a place of a block begins; places count from 0, and a count fits 16 bits.
+// Where the record at a place of a block begins; places count from 0. A helper: its caller has found the
+// block in the file and the place below a count, which fits 16 bits.
 pub fn record_at(shape: Shape, block: usize, place: usize) -> usize
     requires { ⌜ (1 ≤ block) × (block ≤ shape .blocks) × (place < 65536) ⌝ }
     ensures { λ r. ⌜ r ≡ recordAt shape block place ⌝ }

@@ -22,7 +22,7 @@ use Rattle.words.specs.Order.{range}
 use Rattle.words.proofs.Conjunctions.{both}
 use Rattle.words.proofs.EachLaws.{each-fails}
 use Rattle.words.proofs.Ranges.{range-length, range-byte, range-join}
-use Rattle.words.proofs.ZeroLaws.{Nonzero, before-nonzero, before-most, before-whole, zero-range, zeros-behind, before-zeros}
+use Rattle.words.proofs.ZeroLaws.{Nonzero, before-nonzero, before-most, before-whole, zero-range, zeros-behind, before-zeros, none-zero}
 use Rattle.words.proofs.Cases.{lt-or-ge}
 use Rattle.words.proofs.SignedLaws.{half-twice, complemented-lt, complemented-twice, complemented-some, complemented-other, less-below, less-from, signed-complemented}
 use Rattle.header.specs.Refusals.{noMeaning}
@@ -196,7 +196,7 @@ text-means w s t h = go (leb 1 (length s) && leb (length s) w && noZero s) refl 
     go true e k =
         let p = both {a = leb 1 (length s) && leb (length s) w} {b = noZero s} e in
         let q = both {a = leb 1 (length s)} {b = leb (length s) w} (p .0) in
-        let whole : beforeZero s 0 (length s) ≡ length s = eqb-true (beforeZero s 0 (length s)) (length s) (p .1) in
+        let whole : beforeZero s 0 (length s) ≡ length s = eqb-true (beforeZero s 0 (length s)) (length s) (sym (none-zero s (length s)) ∙ p .1) in
         (leb-true 1 (length s) (q .0), leb-true (length s) w (q .1), λ j l. before-nonzero s 0 (length s) j (rw whole l), cc)
     go false e k = no-form k
 
@@ -246,7 +246,7 @@ module _ (s : List ℕ) (at w : ℕ) (room : at + w ≤ length s) where
       let n = range-length s at l (omega arith) in
       let e : l + (w - l) ≡ w = omega arith in
       let padding = zero-range s (at + l) (w - l) (omega arith) zeros in
-      rw (n, le-leb 1 l first, le-leb l w m, eq-eqb (beforeZero (range s at l) 0 l) l (before-whole (range s at l) 0 l nonzero))
+      rw (n, le-leb 1 l first, le-leb l w m, none-zero (range s at l) l, eq-eqb (beforeZero (range s at l) 0 l) l (before-whole (range s at l) 0 l nonzero))
       (ap bytes (ap (λ (z : List ℕ). range s at l ++ z) (sym padding) ∙ sym (range-join s at l (w - l)) ∙ ap (range s at) e))
     where
       nonzero : Nonzero (range s at l) 0 l

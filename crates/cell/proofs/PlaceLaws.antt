@@ -13,6 +13,8 @@ use Rattle.words.specs.Numbers.{big}
 use Rattle.words.specs.Order.{range}
 use Rattle.words.specs.Zeros.{allZero, beforeZero}
 use Rattle.words.proofs.ZeroLaws.{before-most}
+use Rattle.header.specs.Refusals.{noMeaning, badArgument}
+use Rattle.header.specs.declared.Header.{Header}
 use Rattle.header.specs.Kinds.{isBlob}
 use Rattle.header.specs.Header.{headerOf, fieldOf}
 use Rattle.header.specs.Rules.{Accepted}
@@ -35,14 +37,22 @@ use Rattle.cell.specs.declared.value.Value.the-variants as Val
 use Rattle.cell.specs.declared.value.Cell.{Cell}
 use Rattle.cell.specs.declared.value.Cell.the-variants.{Is, Refused}
 
+-- a cell is inside the table: its field inside the record, the record inside the block, the block inside the file
+pub cell-inside : (t : List ℕ) (h : Header) → Accepted t h → (b p f : ℕ) → hasBlock (shapeOf h) b ≡ true
+    → (kind : FieldKind) (width offset : ℕ) → fieldOf t h f ≡ Fie.Is kind width offset → (n : ℕ) → countIn t (shapeOf h) b ≡ Records n → p < n
+    → recordAt (shapeOf h) b p + offset + width ≤ length t
+cell-inside t h a b p f here kind width offset e n k l =
+    let g = shapeOf h in
+    let s = sound t h a in
+    let q = has-block g b here in
+    omega (arith, record-inside t g s b n k p l, block-inside t g s b (q .0) (q .1), field-bounds t h a f kind width offset e .inside, shape-size h)
+
 module _ (t : List ℕ) (b p f : ℕ) (v : Value) where
   module _ (a : Accepted t (headerOf t)) (here : hasBlock (shapeOf (headerOf t)) b ≡ true) where
     by-place : (kind : FieldKind) (width offset : ℕ) → fieldOf t (headerOf t) f ≡ Fie.Is kind width offset → (n : ℕ) → countIn t (shapeOf (headerOf t)) b ≡ Records n → p < n
         → cellAt kind t (recordAt (shapeOf (headerOf t)) b p + offset) width ≡ Is v → Stands t b p f v
     by-place kind width offset e n k l m =
         let g = shapeOf (headerOf t) in
-        let s = sound t (headerOf t) a in
-        let q = has-block g b here in
         let d = field-bounds t (headerOf t) a f kind width offset e in
         record {
           kind = kind;
@@ -52,7 +62,7 @@ module _ (t : List ℕ) (b p f : ℕ) (v : Value) where
           stored = d .stored;
           permitted = d .permitted;
           begins = ap (λ (o : ℕ). recordAt g b p + o) (d .starts);
-          inside = omega (arith, record-inside t g s b n k p l, block-inside t g s b (q .0) (q .1), d .inside, shape-size (headerOf t));
+          inside = cell-inside t (headerOf t) a b p f here kind width offset e n k l;
           means = m;
         }
 
@@ -62,7 +72,7 @@ module _ (t : List ℕ) (b p f : ℕ) (v : Value) where
     by-count kind width offset e Bad k m = no-cell m
     by-count kind width offset e (Records n) k m = go (ltb p n) refl m
       where
-        go : (l : Bool) → ltb p n ≡ l → cond l (cellAt kind t (recordAt (shapeOf (headerOf t)) b p + offset) width) (Refused 13) ≡ Is v → Stands t b p f v
+        go : (l : Bool) → ltb p n ≡ l → cond l (cellAt kind t (recordAt (shapeOf (headerOf t)) b p + offset) width) (Refused badArgument) ≡ Is v → Stands t b p f v
         go true l m = by-place kind width offset e n k (ltb-true p n l) m
         go false l m = no-cell m
 
@@ -72,7 +82,7 @@ module _ (t : List ℕ) (b p f : ℕ) (v : Value) where
     by-field (Fie.Is kind width offset) e m = by-count kind width offset e (countIn t (shapeOf (headerOf t)) b) refl m
 
   by-block : Accepted t (headerOf t) → (h : Bool) → hasBlock (shapeOf (headerOf t)) b ≡ h
-      → cond h (fieldCell t (shapeOf (headerOf t)) b p (fieldOf t (headerOf t) f)) (Refused 13) ≡ Is v → Stands t b p f v
+      → cond h (fieldCell t (shapeOf (headerOf t)) b p (fieldOf t (headerOf t) f)) (Refused badArgument) ≡ Is v → Stands t b p f v
   by-block a true h m = by-field a h (fieldOf t (headerOf t) f) refl m
   by-block a false h m = no-cell m
 
@@ -82,7 +92,7 @@ module _ (t : List ℕ) (b p f : ℕ) (v : Value) where
   stands m = go (eqb (headerOf t .refusal) 0) refl m
     where
       go : (r : Bool) → eqb (headerOf t .refusal) 0 ≡ r
-          → cond r (cond (hasBlock (shapeOf (headerOf t)) b) (fieldCell t (shapeOf (headerOf t)) b p (fieldOf t (headerOf t) f)) (Refused 13)) (Refused (headerOf t .refusal)) ≡ Is v → Stands t b p f v
+          → cond r (cond (hasBlock (shapeOf (headerOf t)) b) (fieldCell t (shapeOf (headerOf t)) b p (fieldOf t (headerOf t) f)) (Refused badArgument)) (Refused (headerOf t .refusal)) ≡ Is v → Stands t b p f v
       go true r m = by-block (accepted t (eqb-true (headerOf t .refusal) 0 r)) (hasBlock (shapeOf (headerOf t)) b) refl m
       go false r m = no-cell m
 
@@ -98,20 +108,20 @@ ends-if false c d n h k = k
 
 date-ends : (z : ℤ) (n : ℕ) → ends (dateCell z) ≤ n
 unfolding dateCell partOf valuePart
-date-ends (pos d) n = ends-if (isDate d) (Is (Val.Date d)) (Refused 11) n (omega arith) (omega arith)
+date-ends (pos d) n = ends-if (isDate d) (Is (Val.Date d)) (Refused noMeaning) n (omega arith) (omega arith)
 date-ends (negsuc d) n = omega arith
 
 value-ends : (kind : FieldKind) (s : List ℕ) (at w : ℕ) → ends (valueAt kind s at w) ≤ at + w
 unfolding valueAt textWith numberCell logicalCell partOf valuePart
 value-ends Kin.Text s at w =
-    ends-if (allZero s (at + beforeZero s at w) (w - beforeZero s at w)) (Is (Val.Text at (beforeZero s at w))) (Refused 11) (at + w) (omega (arith, before-most s at w)) (omega arith)
+    ends-if (allZero s (at + beforeZero s at w) (w - beforeZero s at w)) (Is (Val.Text at (beforeZero s at w))) (Refused noMeaning) (at + w) (omega (arith, before-most s at w)) (omega arith)
 value-ends Kin.Date s at w = date-ends (signedAt s at w) (at + w)
 value-ends Kin.Short s at w = omega arith
 value-ends Kin.Long s at w = omega arith
-value-ends Kin.Number s at w = ends-if (finite (doubleAt s at w)) (Is (Val.Number (doubleAt s at w))) (Refused 11) (at + w) (omega arith) (omega arith)
+value-ends Kin.Number s at w = ends-if (finite (doubleAt s at w)) (Is (Val.Number (doubleAt s at w))) (Refused noMeaning) (at + w) (omega arith) (omega arith)
 value-ends Kin.Logical s at w =
-    ends-if (eqb (big s at w) falseByte) (Is (Val.Logical false)) (cond (eqb (big s at w) trueByte) (Is (Val.Logical true)) (Refused 11)) (at + w) (omega arith)
-    (ends-if (eqb (big s at w) trueByte) (Is (Val.Logical true)) (Refused 11) (at + w) (omega arith) (omega arith))
+    ends-if (eqb (big s at w) falseByte) (Is (Val.Logical false)) (cond (eqb (big s at w) trueByte) (Is (Val.Logical true)) (Refused noMeaning)) (at + w) (omega arith)
+    (ends-if (eqb (big s at w) trueByte) (Is (Val.Logical true)) (Refused noMeaning) (at + w) (omega arith) (omega arith))
 value-ends Kin.Blob s at w = omega arith
 
 -- a text ends no later than its cell

@@ -27,12 +27,10 @@ use Rattle.header.specs.declared.kind.FieldKind.{FieldKind}
 use Rattle.header.specs.declared.kind.FieldKind.the-variants as Kin
 use Rattle.header.specs.declared.kind.StoredKind.the-variants.{Kind}
 use Rattle.header.specs.declared.field.Field.the-variants as Fie
-use Rattle.header.proofs.AcceptedLaws.{accepted, field-bounds}
+use Rattle.header.proofs.AcceptedLaws.{accepted}
 use Rattle.blocks.specs.Shape.{shapeOf, hasBlock, recordAt}
 use Rattle.blocks.specs.Counts.{countIn}
 use Rattle.blocks.specs.declared.count.Count.the-variants.{Records}
-use Rattle.blocks.proofs.ShapeLaws.{sound, shape-size, has-block, block-inside}
-use Rattle.blocks.proofs.CountLaws.{record-inside}
 use Rattle.cell.specs.Values.{Content, text, Held, contentOf, answerOf}
 use Rattle.cell.specs.Reading.{falseByte, trueByte, isDate, signedAt, doubleAt, dateCell, numberCell, logicalCell, textWith, valueAt, cellAt, cellOf, readOf}
 use Rattle.cell.specs.Writing.{writeOf}
@@ -41,7 +39,7 @@ use Rattle.cell.specs.declared.value.Value.the-variants as Val
 use Rattle.cell.specs.declared.value.Cell.{Cell}
 use Rattle.cell.specs.declared.value.Cell.the-variants.{Is, Refused}
 use Rattle.cell.proofs.ReadingLaws.{block-cell, cell-accepted}
-use Rattle.cell.proofs.PlaceLaws.{stands}
+use Rattle.cell.proofs.PlaceLaws.{cell-inside, stands}
 use Rattle.cell.proofs.RoundTrip.{wrote, write-rest, write-then-read, read-then-write}
 
 -- ---- an answer that holds no text is the same over any bytes
@@ -128,11 +126,7 @@ unfolding readOf
 write-then-table code w c buffer out held e t b p f kind offset n zero here field count place k same =
     let g = shapeOf (headerOf t) in
     let at = recordAt g b p + offset in
-    let a = accepted t zero in
-    let s = sound t (headerOf t) a in
-    let q = has-block g b here in
-    let d = field-bounds t (headerOf t) a f kind w offset field in
-    let inside : at + w ≤ length t = omega (arith, record-inside t g s b n count p place, block-inside t g s b (q .0) (q .1), d .inside, shape-size (headerOf t)) in
+    let inside = cell-inside t (headerOf t) (accepted t zero) b p f here kind w offset field n count place in
     let r = write-then-read code w c buffer out held e in
     let i : kind ≡ r .0 = let j = r .1 in cc in
     let room : 0 + w ≤ length out = omega (arith, wrote code w c buffer out e .5, write-rest code w c buffer 0 out e .1) in

@@ -14,7 +14,7 @@ use Rattle.words.specs.Order.{range}
 use Rattle.words.specs.Zeros.{beforeZero}
 use Rattle.words.proofs.DigitLaws.{digits-zero}
 use Rattle.words.proofs.Ranges.{range-length, range-byte}
-use Rattle.words.proofs.ZeroLaws.{before-same, before-most}
+use Rattle.words.proofs.ZeroLaws.{before-same, before-most, none-zero}
 use lib.Dec.{eqb}
 use Rattle.header.specs.declared.kind.FieldKind.{FieldKind}
 use Rattle.header.specs.declared.kind.FieldKind.the-variants as Kin
@@ -85,11 +85,11 @@ module _ (s : List ℕ) (start len w : ℕ) (inside : start + len ≤ length s) 
 
   pub text-zero : 1 ≤ len → len ≤ w → beforeZero s start len < len → none ≡ textForm w (range s start len)
   unfolding textForm
-  text-zero h l z = rw (range-length s start len inside, le-leb 1 len h, le-leb len w l, part-zero, ne-eqb (beforeZero s start len) len (omega arith))
+  text-zero h l z = rw (range-length s start len inside, le-leb 1 len h, le-leb len w l, none-zero (range s start len) len, part-zero, ne-eqb (beforeZero s start len) len (omega arith))
 
   pub text-fits : 1 ≤ len → len ≤ w → len ≤ beforeZero s start len → bytes (range s start len ++ replicate (w - len) 0) ≡ textForm w (range s start len)
   unfolding textForm
-  text-fits h l z = rw (range-length s start len inside, le-leb 1 len h, le-leb len w l, part-zero, eq-eqb (beforeZero s start len) len (le-antisymm (before-most s start len) z))
+  text-fits h l z = rw (range-length s start len inside, le-leb 1 len h, le-leb len w l, none-zero (range s start len) len, part-zero, eq-eqb (beforeZero s start len) len (le-antisymm (before-most s start len) z))
 
 -- ---- the answer
 

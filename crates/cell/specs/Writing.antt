@@ -7,9 +7,9 @@ use lib.IntN.{ℤ, pos, negsuc}
 use lib.Ieee.{Float, nan, inf, fin, binary64, toBits}
 use lib.Ieee.Scale.{finite}
 use lib.ListN.{length, drop, replicate}
-use Rattle.words.specs.Numbers.{digits}
+use Rattle.words.specs.Each.{each}
+use Rattle.words.specs.Numbers.{byte, digits}
 use Rattle.words.specs.Signed.{half, complemented}
-use Rattle.words.specs.Zeros.{beforeZero}
 use Rattle.header.specs.Refusals.{noMeaning, blobCell, badArgument, shortBuffer}
 use Rattle.header.specs.Kinds.{kindOf, isBlob}
 use Rattle.header.specs.declared.kind.FieldKind.{FieldKind}
@@ -47,7 +47,7 @@ numberForm w x = cond (finite x && not (minusZero x)) (bytes (digits w (compleme
 
 -- no byte is zero
 abbrev pub noZero : List ℕ → Bool
-noZero s = eqb (beforeZero s 0 (length s)) (length s)
+noZero s = each (λ (i : ℕ). not (eqb (byte s i) 0)) (length s)
 
 -- text: 1 to w bytes without a zero, and zeros behind them (11 else)
 unfoldable pub textForm : ℕ → List ℕ → Form

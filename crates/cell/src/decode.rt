@@ -85,7 +85,8 @@ fn text_at(t: &[u8], at: usize, width: usize) -> Cell
     Cell::Is(Value::Text { start: at, len })
 }
 
-// The meaning of the `width` bytes at `at`. The last arm is not reached: blobs are refused first.
+// The meaning of the `width` bytes at `at`. A helper of `read_in`, which has found the cell in the table. The
+// last arm is not reached: blobs are refused first.
 pub fn cell_at(t: &[u8], kind: FieldKind, at: usize, width: usize) -> Cell
     requires { ⌜ Permitted kind width × (at + width ≤ length (now t)) ⌝ }
     ensures { λ r. ⌜ r ≡ cellAt kind (now (t .entry)) at width ⌝ }

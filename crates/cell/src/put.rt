@@ -69,7 +69,8 @@ fn put_text(buffer: &mut [u8], width: usize, text: &[u8], start: usize, len: usi
     refusal::ACCEPTED
 }
 
-// Writes a value of the width that its kind has, where it has a stored form.
+// Writes a value of the width that its kind has, where it has a stored form. A helper of `cell::write`,
+// which has judged the kind, the width and the buffer.
 pub fn put_value(value: Value, width: usize, text: &[u8], buffer: &mut [u8]) -> u8
     requires { ⌜ (width ≤ length (now buffer)) × OfWidth (contentOf (now text) value) width × TextInside (now text) value ⌝ }
     ensures { λ r. ⌜ (r, now (buffer .exit)) ≡ putForm width (formOf width (contentOf (now (text .entry)) value)) (now (buffer .entry)) ⌝ }

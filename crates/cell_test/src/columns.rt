@@ -127,7 +127,8 @@ fn double(t: &mut [u8; 3584], place: usize, n: u64)
     put_cell(t, 18 - place, 23, 8, n);
 }
 
-// Place 0 stays blank. The stored sign bit is the complement: 9, 11, 13 and 16 are positive.
+// Place 0 stays blank. Infinities stand at 9 and 10, not-a-numbers at 11 to 14, 16 and 17; of these 9, 11,
+// 13 and 16 are positive, as the stored sign is complemented.
 fn doubles(t: &mut [u8; 3584]) {
     double(t, 1, 0xbff0000000000000);
     double(t, 2, 0x3ff0000000000000);

@@ -1,4 +1,5 @@
 // Cells read, refused, written and read back, and printed. The bytes are written by hand from document 01.
+// Its functions are proved safe and promise nothing more: what they print is compared with the file `stdout`.
 mod codes;
 mod columns;
 mod counts;

@@ -1,11 +1,12 @@
 -- Zero bytes: the bytes before the first zero, a number whose bytes are all zero, and zeros behind other bytes. Assumes nothing.
 use Prim.Native.Nat.{ℕ, zero, suc, _+_, _*_, _≤_, _<_}
 use mathlib.Core.Path.{_≡_, refl, sym, ap, _∙_}
-use mathlib.Core.Bool.{Bool, true, false, cond, _&&_}
+use mathlib.Core.Bool.{Bool, true, false, cond, not, _&&_}
 use mathlib.Core.List.{List, _++_, append-assoc}
 use mathlib.Core.Logic.{⊎-elim}
 use native.Mathlib.Nat.{add-zero, zero-add, not-suc-le-zero, eq-or-lt-of-le, le-antisymm}
 use native.Mathlib.Omega.{arith}
+use lib.Arith.{lt-of-le-ne}
 use lib.Dec.{eqb, ltb}
 use lib.ListN.{length, replicate, length-replicate, getD-replicate, List·getD-append}
 use lib.Seq.{ext-getD, getD-append-add}
@@ -14,7 +15,7 @@ use Rattle.words.specs.Each.{each}
 use Rattle.words.specs.Numbers.{byte, big}
 use Rattle.words.specs.Order.{range}
 use Rattle.words.specs.Zeros.{allZero, beforeZero}
-use Rattle.words.proofs.EachLaws.{each-gives, each-takes}
+use Rattle.words.proofs.EachLaws.{each-gives, each-takes, each-fails}
 use Rattle.words.proofs.Ranges.{range-length, range-byte}
 use Rattle.words.proofs.Cases.{lt-or-ge}
 
@@ -79,6 +80,20 @@ before-is t at m i l h z = go (ltb i (beforeZero t at m)) refl
 -- no zero among them
 pub before-whole : (t : List ℕ) (at m : ℕ) → Nonzero t at m → beforeZero t at m ≡ m
 before-whole t at m h = le-antisymm (before-most t at m) (before-least t at m m (omega arith) h)
+
+-- no byte is zero exactly when all of them stand before the first zero
+pub none-zero : (s : List ℕ) (n : ℕ) → each (λ (i : ℕ). not (eqb (byte s i) 0)) n ≡ eqb (beforeZero s 0 n) n
+none-zero s n = go (eqb (beforeZero s 0 n) n) refl
+  where
+    go : (b : Bool) → eqb (beforeZero s 0 n) n ≡ b → each (λ (i : ℕ). not (eqb (byte s i) 0)) n ≡ b
+    go true e =
+        let f = eqb-true (beforeZero s 0 n) n e in
+        each-takes (λ (i : ℕ). not (eqb (byte s i) 0)) n (λ i l. rw (ne-eqb (byte s i) 0 (λ z. before-nonzero s 0 n i (rw f l) (rw zero-add z))))
+    go false e =
+        let m = before-most s 0 n in
+        let d : beforeZero s 0 n ≡ n → ⊥ = eqb-false (beforeZero s 0 n) n e in
+        let l : beforeZero s 0 n < n = lt-of-le-ne m d in
+        each-fails (λ (i : ℕ). not (eqb (byte s i) 0)) n (beforeZero s 0 n) l (rw (eq-eqb (byte s (beforeZero s 0 n)) 0 (rw zero-add at (before-zero s 0 n l))))
 
 -- bytes that are the same have as many before the first zero
 pub before-same : (s t : List ℕ) (at to m : ℕ) → ((i : ℕ) → i < m → byte s (at + i) ≡ byte t (to + i)) → beforeZero s at m ≡ beforeZero t to m

@@ -6,16 +6,15 @@ use mathlib.Core.Bool.{true}
 use Prim.Native.Nat.{ℕ, _+_, _≤_}
 use lib.ListN.{length}
 use borrow.Author.Tests.{not-true, not-false}
-use Rattle.header.specs.Rules.{FieldBounds}
 use Rattle.header.proofs.AcceptedLaws.{field-bounds}
 use Rattle.header.specs.Header.{fieldOf}
 use Rattle.header.specs.declared.field.Field.the-variants as Fie
 use Rattle.blocks.specs.Shape.{shapeOf, hasBlock, recordAt, Sound}
 use Rattle.blocks.specs.Counts.{countIn}
 use Rattle.blocks.specs.declared.Shape.{Shape}
-use Rattle.blocks.proofs.ShapeLaws.{sound, shape-size, has-block, block-inside}
-use Rattle.blocks.proofs.CountLaws.{record-inside}
+use Rattle.blocks.proofs.ShapeLaws.{sound, has-block}
 use Rattle.cell.specs.Reading.{cellAt}
+use Rattle.cell.proofs.PlaceLaws.{cell-inside}
 use Rattle.cell.proofs.ReadingLaws.{block-none, block-missing, block-bad, block-short, block-cell}
 use Rattle.cell.proofs.read_in.Statement.{statement}
 use Rattle.cell.proofs.read_in.Tie as tie
@@ -102,28 +101,17 @@ returns-4 c =
 record-at-requires : tie.Need-record-at-requires
 record-at-requires c κs = let q = located (c .before .before .before .before .before .before .before .before .before) in (q .0, q .1, search needs)
 
--- the field is inside the record, and the record inside the file
-bounds : (c : tie.After-known-told) →
-    let v = c .before .before .before .before .before .before .before .before .args in
-    let k = c .before .kind .given .0 in
-    FieldBounds (v .table .now) (v .h) (v .field) (k .0) (k .1 .0) (k .1 .1 .0)
-bounds c =
-    let v = c .before .before .before .before .before .before .before .before .args in
-    let k = c .before .kind .given .0 in
-    field-bounds (v .table .now) (v .h) (c .before .before .before .before .before .before .before .before .pre) (v .field) (k .0) (k .1 .0) (k .1 .1 .0) (field c)
-
+-- the cell is inside the table
 inside : (c : tie.After-record-at) →
     let v = c .before .before .before .before .before .before .before .before .before .before .before .before .before .before .args in
     let k = c .before .before .before .before .before .before .before .kind .given .0 in
     c .record-at .result + k .1 .1 .0 + k .1 .0 ≤ length (v .table .now)
 inside c =
     let v = c .before .before .before .before .before .before .before .before .before .before .before .before .before .before .args in
-    let g = c .before .before .before .before .before .before .before .before .before .before .before .before .shape-of .result in
+    let k = c .before .before .before .before .before .before .before .kind .given .0 in
     let n = c .before .before .before .records .given in
-    let q = located (c .before .before .before .before .before .before .before .before .before .before) in
-    let r = record-inside (v .table .now) g (q .2) (v .block) (n .0 .0) (sym (c .before .before .before .before .before .count-in .ensures) ∙ n .1) (v .place) (c .before .if2 .left) in
-    let z : g .size ≡ v .h .size = ap (λ (x : Shape). x .size) (c .before .before .before .before .before .before .before .before .before .before .before .before .shape-of .ensures) ∙ shape-size (v .h) in
-    omega (arith, c .record-at .ensures, r, block-inside (v .table .now) g (q .2) (v .block) (q .0) (q .1), bounds (c .before .before .before .before .before .before) .inside, z)
+    let e = c .record-at .ensures ∙ ap (λ (g : Shape). recordAt g (v .block) (v .place)) (c .before .before .before .before .before .before .before .before .before .before .before .before .shape-of .ensures) in
+    rw e (cell-inside (v .table .now) (v .h) (c .before .before .before .before .before .before .before .before .before .before .before .before .before .before .pre) (v .block) (v .place) (v .field) (here (c .before .before .before .before .before .before .before .before .before .before)) (k .0) (k .1 .0) (k .1 .1 .0) (field (c .before .before .before .before .before .before)) (n .0 .0) (count (c .before .before .before .before .before) ∙ n .1) (c .before .if2 .left))
 
 cast-at : tie.Need-cast-at
 cast-at c = search needs
@@ -135,7 +123,10 @@ cast-cell-at : tie.Need-cast-cell-at
 cast-cell-at c = search needs
 
 cell-at-requires : tie.Need-cell-at-requires
-cell-at-requires c κs = (bounds (c .before .before .before .before .before .before) .permitted, inside c)
+cell-at-requires c κs =
+    let v = c .before .before .before .before .before .before .before .before .before .before .before .before .before .before .args in
+    let k = c .before .before .before .before .before .before .before .kind .given .0 in
+    (field-bounds (v .table .now) (v .h) (c .before .before .before .before .before .before .before .before .before .before .before .before .before .before .pre) (v .field) (k .0) (k .1 .0) (k .1 .1 .0) (field (c .before .before .before .before .before .before)) .permitted, inside c)
 
 returns-5 : tie.Need-returns-5
 returns-5 c =
