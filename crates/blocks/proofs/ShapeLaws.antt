@@ -2,17 +2,17 @@
 use Prim.Native.Nat.{ℕ, zero, suc, _+_, _-_, _*_, _≤_, _<_}
 use mathlib.Core.Path.{_≡_, refl}
 use mathlib.Core.Bool.{true}
-use Rattle.words.proofs.Conjunctions.{both}
+use Rattle.words.proofs.Conjunctions.{both, join}
 use mathlib.Core.List.{List}
 use native.Mathlib.Nat.{mul-le-mul-right, mul-le-mul, not-suc-le-zero}
 use native.Mathlib.Numerals.{sub-one}
 use native.Mathlib.Omega.{arith}
 use lib.Dec.{leb}
 use lib.ListN.{length}
-use borrow.Author.Tests.{leb-true}
+use borrow.Author.Tests.{leb-true, le-leb}
 use Rattle.header.specs.Rules.{Accepted}
 use Rattle.header.specs.declared.Header.{Header}
-use Rattle.blocks.specs.Shape.{shapeOf, hasBlock, blockAt, Sound}
+use Rattle.blocks.specs.Shape.{shapeOf, inFile, hasBlock, blockAt, Sound}
 use Rattle.blocks.specs.declared.Shape.{Shape}
 
 -- an accepted header's shape
@@ -25,9 +25,23 @@ pub shape-size : (h : Header) → shapeOf h .size ≡ h .size
 unfolding shapeOf
 shape-size h = refl
 
+-- a table has the header's number of blocks
+pub shape-blocks : (h : Header) → shapeOf h .blocks ≡ h .blocks
+unfolding shapeOf
+shape-blocks h = refl
+
+-- a block of the file is counted from 1 to the number of blocks
+pub in-file : (n b : ℕ) → inFile n b ≡ true → (1 ≤ b) × (b ≤ n)
+unfolding inFile
+in-file n b e = let p = both {a = leb 1 b} {b = leb b n} e in (leb-true 1 b (p .0), leb-true b n (p .1))
+
+pub file-has : (n b : ℕ) → 1 ≤ b → b ≤ n → inFile n b ≡ true
+unfolding inFile
+file-has n b low high = join (le-leb 1 b low) (le-leb b n high)
+
 pub has-block : (g : Shape) (b : ℕ) → hasBlock g b ≡ true → (1 ≤ b) × (b ≤ g .blocks)
 unfolding hasBlock
-has-block g b e = let p = both {a = leb 1 b} {b = leb b (g .blocks)} e in (leb-true 1 b (p .0), leb-true b (g .blocks) (p .1))
+has-block g b e = in-file (g .blocks) b e
 
 -- the blocks before block b, and block b, are at most all of them
 blocks-fit : (block b n : ℕ) → 1 ≤ b → b ≤ n → (b - 1) * block + block ≤ n * block

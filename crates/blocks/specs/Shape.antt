@@ -13,9 +13,13 @@ use Rattle.blocks.specs.declared.Shape.{Shape}
 unfoldable pub shapeOf : Header → Shape
 shapeOf h = record { header = h .header; block = h .block; blocks = h .blocks; size = h .size }
 
+-- b is the number of one of n blocks
+unfoldable pub inFile : ℕ → ℕ → Bool
+inFile n b = leb 1 b && leb b n
+
 -- 13, 8, 27: whether block b is in the file
 unfoldable pub hasBlock : Shape → ℕ → Bool
-hasBlock g b = leb 1 b && leb b (g .blocks)
+hasBlock g b = inFile (g .blocks) b
 
 -- where block b begins
 abbrev pub blockAt : Shape → ℕ → ℕ

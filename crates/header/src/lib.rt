@@ -14,6 +14,7 @@ pub use field::field_of;
 pub use kind::FieldKind;
 pub use kind::StoredKind;
 pub use rules::BLOCK_HEAD;
+pub use rules::MOST_RECORDS;
 ghost use mathlib.Core.Path.{_≡_};
 ghost use Rattle.header.specs.Header.{headerOf};
 use crate::answer::refused;

@@ -33,7 +33,7 @@ const MOST_BLOCKS: u16 = 32767;
 
 const MOST_FIELDS: u16 = 255;
 
-const MOST_RECORDS: u32 = 2147483647;
+pub const MOST_RECORDS: u32 = 2147483647;
 
 // Rule 2.
 pub fn is_table(s: Stored) -> bool

@@ -1,7 +1,7 @@
 -- Byte order of two ranges of bytes. Definitions only.
 use Prim.Native.Nat.{ℕ}
 use mathlib.Core.List.{List, [], _∷_}
-use mathlib.Core.Bool.{cond}
+use mathlib.Core.Bool.{Bool, true, false, cond}
 use lib.Dec.{ltb}
 use lib.ListN.{take, drop}
 use Rattle.words.specs.declared.Order.{Order}
@@ -17,3 +17,9 @@ order [] [] = Same
 order [] (y ∷ ys) = Less
 order (x ∷ xs) [] = More
 order (x ∷ xs) (y ∷ ys) = cond (ltb x y) Less (cond (ltb y x) More (order xs ys))
+
+-- the first of two ranges is less
+unfoldable pub isLess : Order → Bool
+isLess Less = true
+isLess Same = false
+isLess More = false

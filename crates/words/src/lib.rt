@@ -10,13 +10,26 @@ ghost use mathlib.Core.List.{_++_};
 ghost use Prim.Native.Nat.{_+_, _≤_};
 ghost use lib.ListN.{drop, length};
 ghost use Rattle.words.specs.Numbers.{big, digits, long, word};
-ghost use Rattle.words.specs.Order.{order, range};
+ghost use Rattle.words.specs.Order.{isLess, order, range};
 
 // How two ranges of bytes compare.
 pub enum Order {
     Less,
     Same,
     More,
+}
+
+impl Order {
+    // Whether the first of two ranges is less.
+    pub fn is_less(self) -> bool
+        ensures { λ r. ⌜ r ≡ isLess self ⌝ }
+    {
+        match self {
+            Order::Less => true,
+            Order::Same => false,
+            Order::More => false,
+        }
+    }
 }
 
 // A byte as a wider number: the cast is proved here once.

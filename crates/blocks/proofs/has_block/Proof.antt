@@ -1,7 +1,7 @@
 -- `has_block` meets its contract. Assumes nothing.
 use mathlib.Core.Path.{refl}
 use borrow.Author.Needs.{needs}
-use Rattle.blocks.specs.Shape.{hasBlock}
+use Rattle.blocks.specs.Shape.{inFile, hasBlock}
 use Rattle.blocks.proofs.has_block.Statement.{statement}
 use Rattle.blocks.proofs.has_block.Tie as tie
 
@@ -9,7 +9,7 @@ cast-result : tie.Need-cast-result
 cast-result c = search needs
 
 returns : tie.Need-returns
-unfolding hasBlock
+unfolding hasBlock inFile
 returns c = refl
 
 pub has-block-spec : {M : Type 1} → statement M

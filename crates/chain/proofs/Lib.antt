@@ -1,0 +1,5 @@
+pub mod ListLaws
+pub mod MarkLaws
+pub mod RuleLaws
+pub mod SumLaws
+pub mod WalkLaws

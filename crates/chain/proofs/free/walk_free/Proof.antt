@@ -1,0 +1,117 @@
+-- `walk_free` meets its contract: the chain that is left decides what the whole comes to (WalkLaws). Assumes nothing.
+use mathlib.Core.Path.{_≡_, refl, sym, _∙_}
+use mathlib.Core.Bool.{Bool, true, false, false≢true}
+use mathlib.Core.List.{List}
+use Prim.Native.Nat.{ℕ, _-_}
+use native.Mathlib.Omega.{arith}
+use lib.ListN.{length}
+use borrow.Author.Needs.{needs}
+use borrow.Author.Tests.{not-true, not-false}
+use Rattle.chain.specs.Chain.{chainFrom, times}
+use Rattle.chain.specs.Links.{nextOf}
+use Rattle.chain.specs.Steps.{isFresh, anyTwo}
+use Rattle.chain.proofs.WalkLaws.{Fresh, fresh, fewer, Going, begin, step, broken, whole-judged, whole-stored}
+use Rattle.chain.proofs.free.walk_free.Statement.{statement}
+use Rattle.chain.proofs.free.walk_free.Tie as tie
+
+-- nothing is gathered on the way
+abbrev keep : ℕ → ℕ → ℕ
+keep s b = s
+
+abbrev Inv-loop : tie.InvT-loop
+Inv-loop table shape first marks₀ block₀ marks block =
+    (before : ℕ) × Going (nextOf table shape) anyTwo 2 keep 0 (chainFrom (nextOf table shape) (length marks₀) first) marks₀ marks 0 before block
+
+abbrev μ-loop : tie.MeasureT-loop
+μ-loop table shape first marks₀ block₀ marks block = times 0 marks
+
+loop-holds : tie.Need-loop-holds Inv-loop μ-loop
+loop-holds c = let v = c .before .before .args in (0, begin (nextOf (v .table .now) (v .shape)) anyTwo 2 keep 0 (v .first) (v .marks .now))
+
+is-fresh-requires : tie.Need-is-fresh-requires Inv-loop μ-loop
+is-fresh-requires c κs = search needs
+
+same-length : tie.Need-same-length Inv-loop μ-loop
+same-length c = c .before .before .before .before .loop .inv .1 .same
+
+returns : tie.Need-returns Inv-loop μ-loop
+returns c =
+    let v = c .before .before .before .before .before .before .before .args in
+    let l = c .before .before .before .before .loop in
+    let next = nextOf (v .table .now) (v .shape) in
+    let stale : isFresh (l .marks) (l .block) ≡ false = sym (c .before .is-fresh .ensures) ∙ not-true _ (c .if1 .taken) in
+    record {
+      judged = broken next anyTwo 2 keep 0 (chainFrom next (length (v .marks .now)) (v .first)) (v .marks .now) (l .marks) 0 (l .inv .0) (l .block) (c .before .before .before .loop-test .taken) (rw stale) (l .inv .1);
+      stored = λ e. absurd (false≢true e);
+    }
+
+-- where a block may be taken
+module _ (c : tie.Else1 Inv-loop μ-loop) where
+  abbrev M : List ℕ
+  M = c .before .before .before .before .loop .marks
+
+  abbrev B : ℕ
+  B = c .before .before .before .before .loop .block
+
+  is-fresh : isFresh M B ≡ true
+  is-fresh = sym (c .before .is-fresh .ensures) ∙ not-false _ (c .if1 .left)
+
+  here : Fresh M B
+  here = fresh M B is-fresh
+
+sub-marks : tie.Need-sub-marks Inv-loop μ-loop
+sub-marks c = here c .low
+
+slice-write-marks : tie.Need-slice-write-marks Inv-loop μ-loop
+slice-write-marks c = omega (arith, here c)
+
+next-of-requires : tie.Need-next-of-requires Inv-loop μ-loop
+next-of-requires c κs =
+    let p = c .before .before .before .before .before .before .before .pre in
+    (here c .low, omega (arith, here c, p .1, c .before .before .before .before .loop .inv .1 .same), p .0)
+
+loop-less : tie.Need-loop-less Inv-loop μ-loop
+loop-less c = omega (arith, fewer (M (c .before)) (B (c .before)) 2 (here (c .before)) (omega arith))
+
+loop-again : tie.Need-loop-again Inv-loop μ-loop
+loop-again c =
+    let d = c .before in
+    let v = d .before .before .before .before .before .before .before .args in
+    let l = d .before .before .before .before .loop in
+    let next = nextOf (v .table .now) (v .shape) in (
+      l .block,
+      rw (c .next-of .ensures)
+          (step next anyTwo 2 keep 0 (chainFrom next (length (v .marks .now)) (v .first)) (v .marks .now) (l .marks) 0 (l .inv .0) (l .block) (d .before .before .before .loop-test .taken) (omega arith) (is-fresh d) refl (l .inv .1)),
+    )
+
+same-length-2 : tie.Need-same-length-2 Inv-loop μ-loop
+same-length-2 c = c .before .loop .inv .1 .same
+
+returns-2 : tie.Need-returns-2 Inv-loop μ-loop
+returns-2 c =
+    let v = c .before .before .before .before .args in
+    let l = c .before .loop in
+    let next = nextOf (v .table .now) (v .shape) in
+    let whole = chainFrom next (length (v .marks .now)) (v .first) in
+    record {
+      judged = whole-judged next anyTwo 2 keep 0 whole (v .marks .now) (l .marks) 0 (l .inv .0) (l .block) (c .loop-test .left) (l .inv .1);
+      stored = λ _. whole-stored next anyTwo 2 keep 0 whole (v .marks .now) (l .marks) 0 (l .inv .0) (l .block) (c .loop-test .left) (l .inv .1);
+    }
+
+pub walk-free-spec : {M : Type 1} → statement M
+walk-free-spec =
+    tie.close
+    (tie.spec
+    Inv-loop
+    μ-loop
+    loop-holds
+    is-fresh-requires
+    same-length
+    returns
+    sub-marks
+    slice-write-marks
+    next-of-requires
+    loop-less
+    loop-again
+    same-length-2
+    returns-2)

@@ -1,0 +1,31 @@
+-- `next_of` meets its contract: a block's head is inside the file. Assumes nothing.
+use borrow.Author.Needs.{needs}
+use native.Mathlib.Omega.{arith}
+use mathlib.Core.Path.{ap, _∙_}
+use Prim.Native.Nat.{ℕ}
+use Rattle.words.specs.Numbers.{word}
+use Rattle.blocks.proofs.ShapeLaws.{block-inside}
+use Rattle.chain.specs.Links.{nextOf}
+use Rattle.chain.proofs.links.next_of.Statement.{statement}
+use Rattle.chain.proofs.links.next_of.Tie as tie
+
+block-at-requires : tie.Need-block-at-requires
+block-at-requires c κs = search needs
+
+word-requires : tie.Need-word-requires
+word-requires c κs =
+    let v = c .before .before .args in
+    let p = c .before .before .pre in
+    omega (arith, c .block-at .ensures, block-inside (v .file .now) (v .shape) (p .2) (v .block) (p .0) (p .1), p .2 .size-most)
+
+cast-result : tie.Need-cast-result
+cast-result c = search needs
+
+returns : tie.Need-returns
+unfolding nextOf
+returns c =
+    let v = c .before .before .before .args in
+    c .word .ensures ∙ ap (λ (a : ℕ). word (v .file .now) a) (c .before .block-at .ensures)
+
+pub next-of-spec : {M : Type 1} → statement M
+next-of-spec = tie.close (tie.spec block-at-requires word-requires cast-result returns)

@@ -1,0 +1,5 @@
+pub mod Chain
+pub mod Links
+pub mod Marks
+pub mod Rules
+pub mod Steps

@@ -1,0 +1,33 @@
+-- The links of a table: the first two words of each block's head, and three words of the header. Definitions only.
+use Prim.Native.Nat.{ℕ, _+_}
+use mathlib.Core.List.{List}
+use Rattle.words.specs.Numbers.{word}
+use Rattle.header.specs.declared.Header.{Header}
+use Rattle.blocks.specs.Shape.{shapeOf, blockAt}
+use Rattle.blocks.specs.declared.Shape.{Shape}
+use Rattle.chain.specs.Chain.{Links, usedChain, freeChain}
+
+-- a block's head: its first word is the next block, its second word the previous one
+unfoldable pub nextOf : List ℕ → Shape → ℕ → ℕ
+nextOf t g b = word t (blockAt g b)
+
+unfoldable pub previousOf : List ℕ → Shape → ℕ → ℕ
+previousOf t g b = word t (blockAt g b + 2)
+
+-- the links of a table, by its header
+abbrev pub linksOf : List ℕ → Header → Links
+linksOf t h =
+    record {
+      next = nextOf t (shapeOf h);
+      previous = previousOf t (shapeOf h);
+      first = h .first;
+      last = h .last;
+      free = h .free;
+    }
+
+-- the used and the free blocks of a table, in chain order
+abbrev pub usedOf : List ℕ → Header → List ℕ
+usedOf t h = usedChain (h .blocks) (linksOf t h)
+
+abbrev pub freeOf : List ℕ → Header → List ℕ
+freeOf t h = freeChain (h .blocks) (linksOf t h)

@@ -1,0 +1,64 @@
+-- What each answer of the table check says, and what it leaves in the mark buffer. Assumes nothing.
+use Prim.Native.Nat.{ℕ, zero, suc, _≤_, _<_}
+use mathlib.Core.Path.{_≡_, refl, sym, ap, _∙_}
+use mathlib.Core.Bool.{Bool, true, false}
+use mathlib.Core.List.{List, _++_, foldl}
+use native.Mathlib.Omega.{arith}
+use lib.ListN.{length, replicate, drop, length-replicate}
+use borrow.Author.Tests.{eq-eqb, ne-eqb, le-leb, lt-leb}
+use Rattle.header.specs.Header.{headerOf}
+use Rattle.header.specs.Rules.{Accepted}
+use Rattle.header.specs.Fields.{widthSum}
+use Rattle.header.specs.declared.Header.{Header}
+use Rattle.blocks.specs.Shape.{shapeOf}
+use Rattle.chain.specs.Links.{usedOf}
+use Rattle.chain.specs.Marks.{marksOf}
+use Rattle.table.specs.Counts.{countsRight, sumFits}
+use Rattle.table.specs.Keys.{keysAscend}
+use Rattle.table.specs.Table.{tableChained, recordsAnswer, blocksAnswer, tableAnswer, blockMarks, bufferAfter, tableMarks}
+use Rattle.table.specs.Steps.{nothing, addBlock, tallyAnswer}
+use Rattle.table.specs.declared.tally.Tally.{Tally}
+use Rattle.table.proofs.TallyLaws.{tally-answer}
+
+-- ---- 8, 9, 16, 10
+
+module _ (t : List ℕ) (h : Header) where
+  pub chains-refused : tableChained t h ≡ false → (8 ≡ recordsAnswer t h) × (replicate (h .blocks) 0 ≡ blockMarks t h)
+  unfolding recordsAnswer blockMarks
+  chains-refused e = (rw e, rw e)
+
+  pub chains-kept : tableChained t h ≡ true → marksOf (h .blocks) (usedOf t h) ≡ blockMarks t h
+  unfolding blockMarks
+  chains-kept e = rw e
+
+  -- without key fields the key length is 0
+  keyless : Accepted t h → h .keys ≡ 0 → h .key ≡ 0
+  unfolding widthSum
+  keyless a e = a .key-length ∙ rw e
+
+  -- the tally of the used blocks answers for the rules
+  pub records-answered : Accepted t h → tableChained t h ≡ true → tallyAnswer (foldl (addBlock t (shapeOf h) (h .key)) nothing (usedOf t h)) (h .records) ≡ recordsAnswer t h
+  unfolding recordsAnswer countsRight sumFits keysAscend
+  records-answered a e = tally-answer t (shapeOf h) (h .key) (usedOf t h) (h .keys) (a .key-least) (keyless a) (h .records) ∙ rw e
+
+  -- ---- 14
+
+  module _ (m : List ℕ) where
+    pub buffer-short : length m < h .blocks → (14 ≡ blocksAnswer t h (length m)) × (m ≡ bufferAfter t h m)
+    unfolding blocksAnswer bufferAfter
+    buffer-short l = (rw (lt-leb (h .blocks) (length m) l), rw (lt-leb (h .blocks) (length m) l))
+
+    pub buffer-long : h .blocks ≤ length m → (recordsAnswer t h ≡ blocksAnswer t h (length m)) × (blockMarks t h ++ drop (h .blocks) m ≡ bufferAfter t h m)
+    unfolding blocksAnswer bufferAfter
+    buffer-long l = (rw (le-leb (h .blocks) (length m) l), rw (le-leb (h .blocks) (length m) l))
+
+-- ---- 1 to 7
+
+module _ (t m : List ℕ) where
+  pub header-refused : (headerOf t .refusal ≡ 0 → ⊥) → (headerOf t .refusal ≡ tableAnswer t (length m)) × (m ≡ tableMarks t m)
+  unfolding tableAnswer tableMarks
+  header-refused e = (rw (ne-eqb (headerOf t .refusal) 0 e), rw (ne-eqb (headerOf t .refusal) 0 e))
+
+  pub header-accepted : headerOf t .refusal ≡ 0 → (blocksAnswer t (headerOf t) (length m) ≡ tableAnswer t (length m)) × (bufferAfter t (headerOf t) m ≡ tableMarks t m)
+  unfolding tableAnswer tableMarks
+  header-accepted e = (rw (eq-eqb (headerOf t .refusal) 0 e), rw (eq-eqb (headerOf t .refusal) 0 e))

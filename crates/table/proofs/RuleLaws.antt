@@ -1,0 +1,135 @@
+-- Demand 2 for tables: with a mark for each block the answer is 0 exactly when `TableRules` holds; and what an accepted table gives.
+-- Assumes nothing.
+use Prim.Native.Nat.{ℕ, zero, suc, _+_, _≤_, _<_}
+use mathlib.Core.Path.{_≡_, refl, sym, ap, _∙_}
+use mathlib.Core.Bool.{Bool, true, false, cond, _&&_}
+use mathlib.Core.List.{List, map}
+use native.Mathlib.Omega.{arith}
+use lib.Dec.{eqb, leb, eqb·suc-zero}
+use lib.ListN.{length}
+use borrow.Author.Tests.{eq-eqb, eqb-true, le-leb, lt-leb, leb-true, leb-false}
+use Rattle.words.proofs.Conjunctions.{both, join}
+use Rattle.header.specs.Header.{headerOf, mostRecords}
+use Rattle.header.specs.declared.Header.{Header}
+use Rattle.header.proofs.AcceptedLaws.{accepted, accepted-gives, accepted-takes}
+use Rattle.blocks.specs.Shape.{shapeOf}
+use Rattle.chain.specs.Links.{linksOf, usedOf, freeOf}
+use Rattle.chain.specs.Rules.{ChainRules}
+use Rattle.chain.proofs.RuleLaws.{rules-give, rules-take, rules-length, rules-once, used-is}
+use Rattle.table.specs.Records.{recordsIn, recordsOf}
+use Rattle.table.specs.Counts.{countsGood, total, countsRight, sumFits}
+use Rattle.table.specs.Keys.{keyAt, keysOf, ascend, keysAscend}
+use Rattle.table.specs.Table.{tableChained, recordsAnswer, blocksAnswer, tableAnswer}
+use Rattle.table.specs.Rules.{Ascending, TableRules, AcceptedTable}
+use Rattle.table.proofs.RecordLaws.{records-total, counts-give, counts-take, ascend-gives, ascend-takes, ascending-pairs}
+
+-- ---- the answer is 0 exactly when every test holds
+
+-- a rule whose number is not 0: an answer of 0 keeps it
+kept : (b : Bool) (n rest : ℕ) → cond b rest (suc n) ≡ 0 → (b ≡ true) × (rest ≡ 0)
+kept true n rest e = (refl, e)
+kept false n rest e = absurd (let z : _≡_ {A = ℕ} 0 1 = cc in omega arith)
+
+-- the tests of a table, apart
+record Kept (t : List ℕ) (h : Header) : Type 0 where
+  chains : tableChained t h ≡ true
+  counts : countsRight t h ≡ true
+  few : sumFits t h ≡ true
+  keys : keysAscend t h ≡ true
+
+records-give : (t : List ℕ) (h : Header) → recordsAnswer t h ≡ 0 → Kept t h
+unfolding recordsAnswer
+records-give t h e =
+    let p₁ = kept (tableChained t h) 7 _ e in
+    let p₂ = kept (countsRight t h) 8 _ (p₁ .1) in
+    let p₃ = kept (sumFits t h) 15 _ (p₂ .1) in
+    let p₄ = kept (keysAscend t h) 9 0 (p₃ .1) in
+    record { chains = p₁ .0; counts = p₂ .0; few = p₃ .0; keys = p₄ .0 }
+
+records-take : (t : List ℕ) (h : Header) → Kept t h → recordsAnswer t h ≡ 0
+unfolding recordsAnswer
+records-take t h k = rw (k .chains, k .counts, k .few, k .keys)
+
+-- the header's number comes first
+accepted-first : (n rest : ℕ) → cond (eqb n 0) rest n ≡ 0 → (n ≡ 0) × (rest ≡ 0)
+accepted-first zero rest e = (refl, e)
+accepted-first (suc n) rest e = absurd (let z : suc n ≡ 0 = rw eqb·suc-zero at e in omega arith)
+
+answer-zero : (t : List ℕ) (room : ℕ) → tableAnswer t room ≡ 0 → (headerOf t .refusal ≡ 0) × Kept t (headerOf t)
+unfolding tableAnswer blocksAnswer
+answer-zero t room e =
+    let p = accepted-first (headerOf t .refusal) (blocksAnswer t (headerOf t) room) e in
+    (p .0, records-give t (headerOf t) (kept (leb (headerOf t .blocks) room) 13 (recordsAnswer t (headerOf t)) (p .1) .1))
+
+-- ---- the tests are the propositions
+
+keys-give : (t : List ℕ) (h : Header) → keysAscend t h ≡ true → 1 ≤ h .keys → Ascending (keysOf t h)
+unfolding keysAscend
+keys-give t h e l = ascend-gives (keysOf t h) (rw (le-leb 1 (h .keys) l) at e)
+
+keys-take : (t : List ℕ) (h : Header) → (1 ≤ h .keys → Ascending (keysOf t h)) → keysAscend t h ≡ true
+unfolding keysAscend
+keys-take t h k = go (leb 1 (h .keys)) refl
+  where
+    go : (b : Bool) → leb 1 (h .keys) ≡ b → cond b (ascend (keysOf t h)) true ≡ true
+    go true e = ascend-takes (keysOf t h) (k (leb-true 1 (h .keys) e))
+    go false e = refl
+
+module _ (t : List ℕ) (room : ℕ) where
+  -- an accepted table meets the rules
+  pub table-gives : tableAnswer t room ≡ 0 → TableRules t
+  unfolding countsRight sumFits
+  table-gives e =
+      let h = headerOf t in
+      let p = answer-zero t room e in
+      let c = both {a = countsGood t (shapeOf h) (usedOf t h)} {b = eqb (total t (shapeOf h) (usedOf t h)) (h .records)} (p .1 .counts) in
+      record {
+        header = accepted-gives t (p .0);
+        used = usedOf t h;
+        free = freeOf t h;
+        chains = rules-give (h .blocks) (linksOf t h) (p .1 .chains);
+        counts = counts-give t (shapeOf h) (usedOf t h) (c .0);
+        sum = eqb-true (total t (shapeOf h) (usedOf t h)) (h .records) (c .1);
+        few = leb-true (total t (shapeOf h) (usedOf t h)) mostRecords (p .1 .few);
+        keys = keys-give t h (p .1 .keys);
+      }
+
+  -- a table that meets the rules is accepted, where the mark buffer has a byte for each block
+  pub table-takes : TableRules t → headerOf t .blocks ≤ room → tableAnswer t room ≡ 0
+  unfolding tableAnswer blocksAnswer countsRight sumFits
+  table-takes r l =
+      let h = headerOf t in
+      let z = accepted-takes t (r .header) in
+      let u : usedOf t h ≡ r .used = used-is (h .blocks) (linksOf t h) (r .used) (r .free) (r .chains) in
+      let k : Kept t h = record {
+        chains = rules-take (h .blocks) (linksOf t h) (r .used) (r .free) (r .chains);
+        counts = rw u (join (counts-take t (shapeOf h) (r .used) (r .counts)) (eq-eqb (total t (shapeOf h) (r .used)) (h .records) (r .sum)));
+        few = rw u (le-leb (total t (shapeOf h) (r .used)) mostRecords (r .few));
+        keys = keys-take t h (λ y. rw u (r .keys y));
+      } in
+      rw (eq-eqb (h .refusal) 0 z, le-leb (h .blocks) room l) (records-take t h k)
+
+-- ---- what an accepted table gives
+
+module _ (t : List ℕ) (room : ℕ) (e : tableAnswer t room ≡ 0) where
+  abbrev h : Header
+  h = headerOf t
+
+  chained : ChainRules (h .blocks) (linksOf t h) (usedOf t h) (freeOf t h)
+  chained = rules-give (h .blocks) (linksOf t h) (answer-zero t room e .1 .chains)
+
+  pub accepted-table : AcceptedTable t h
+  unfolding countsRight
+  accepted-table =
+      let p = answer-zero t room e in
+      let c = both {a = countsGood t (shapeOf h) (usedOf t h)} {b = eqb (total t (shapeOf h) (usedOf t h)) (h .records)} (p .1 .counts) in
+      record {
+        header = accepted t (p .0);
+        chain = chained .used-chain;
+        inside = chained .used-inside;
+        once = rules-once (h .blocks) (linksOf t h) (usedOf t h) (freeOf t h) chained;
+        few-blocks = omega (arith, rules-length (h .blocks) (linksOf t h) (usedOf t h) (freeOf t h) chained);
+        counts = counts-give t (shapeOf h) (usedOf t h) (c .0);
+        records = records-total t (shapeOf h) (usedOf t h) ∙ eqb-true (total t (shapeOf h) (usedOf t h)) (h .records) (c .1);
+        ascending = λ k. ascending-pairs (keysOf t h) (keys-give t h (p .1 .keys) k);
+      }

@@ -1,0 +1,176 @@
+-- The tally of blocks passed one after another says what the rules say of all of them, by induction over the blocks. Assumes nothing.
+use Prim.Native.Nat.{ℕ, _+_, _*_, _≤_}
+use mathlib.Core.Path.{_≡_, refl, sym, ap, _∙_}
+use mathlib.Core.Bool.{Bool, true, false, cond, _&&_, false≢true}
+use mathlib.Core.List.{List, [], _∷_, map, foldl, foldl-append}
+use native.Mathlib.Nat.{add-zero, zero-add, add-assoc, mul-le-mul-left}
+use native.Mathlib.Omega.{arith}
+use lib.Dec.{eqb, leb}
+use borrow.Author.Tests.{leb-true, leb-false}
+use Rattle.words.specs.Numbers.{word}
+use Rattle.words.specs.Signed.{signed}
+use Rattle.words.proofs.Conjunctions.{both}
+use Rattle.header.specs.Header.{mostRecords}
+use Rattle.header.specs.Refusals.{wrongCount, keyOrder, tooManyRecords, firstBroken}
+use Rattle.blocks.specs.Shape.{blockAt, recordAt, Sound}
+use Rattle.blocks.specs.Counts.{countIn}
+use Rattle.blocks.specs.declared.Shape.{Shape}
+use Rattle.blocks.specs.declared.count.Count.{Count}
+use Rattle.blocks.specs.declared.count.Count.the-variants.{Records, Bad}
+use Rattle.blocks.proofs.CountLaws.{count-most}
+use Rattle.chain.specs.Chain.{every}
+use Rattle.table.specs.Records.{Position, held, placesFrom, recordsIn}
+use Rattle.table.specs.Counts.{isGood, countsGood, total}
+use Rattle.table.specs.Keys.{keyAt, ascend}
+use Rattle.table.specs.Steps.{nextKey, isOrdered, KeyInside, unordered, nothing, uncounted, addCount, addBlock, tallyAnswer}
+use Rattle.table.specs.declared.keys.Keys.{Keys}
+use Rattle.table.specs.declared.tally.Tally.{Tally}
+use Rattle.table.proofs.KeyLaws.{passed, ascendAfter, run-keyless, run-passed, passed-ascend, counted-inside, run-stays}
+
+-- a good count is one of records
+good-count : (c : Count) → isGood c ≡ true → c ≡ Records (held c)
+unfolding isGood held
+good-count (Records n) e = refl
+good-count Bad e = absurd (false≢true e)
+
+module _ (t : List ℕ) (g : Shape) (key : ℕ) where
+  -- ---- one block
+
+  -- behind a bad count it changes nothing
+  pub add-behind : (s : Tally) (b : ℕ) → s .counted ≡ false → addBlock t g key s b ≡ s
+  unfolding addBlock
+  add-behind s b e = rw e
+
+  pub add-count : (s : Tally) (b : ℕ) → s .counted ≡ true → (c : Count) → countIn t g b ≡ c → addBlock t g key s b ≡ addCount t g key s b c
+  unfolding addBlock
+  add-count s b e c f = rw (e, f)
+
+  -- ---- some blocks
+
+  tally-behind : (s : Tally) (bs : List ℕ) → s .counted ≡ false → foldl (addBlock t g key) s bs ≡ s
+  tally-behind s [] e = refl
+  tally-behind s (b ∷ bs) e = rw (add-behind s b e) (tally-behind s bs e)
+
+  tally-bad : (s : Tally) (bs : List ℕ) → s .counted ≡ true → countsGood t g bs ≡ false → foldl (addBlock t g key) s bs .counted ≡ false
+  unfolding every isGood addCount uncounted
+  tally-bad s [] e h = absurd (false≢true (sym h))
+  tally-bad s (b ∷ bs) e h = go (countIn t g b) refl (λ r. tally-bad r bs)
+    where
+      go : (c : Count) → countIn t g b ≡ c → ((r : Tally) → r .counted ≡ true → countsGood t g bs ≡ false → foldl (addBlock t g key) r bs .counted ≡ false) →
+          foldl (addBlock t g key) (addBlock t g key s b) bs .counted ≡ false
+      go (Records n) f ih = rw (add-count s b e (Records n) f) (ih (addCount t g key s b (Records n)) refl (rw f at h))
+      go Bad f ih = rw (add-count s b e Bad f) (rw (tally-behind uncounted bs refl))
+
+  -- what a tally becomes by blocks with good counts
+  record Added (s : Tally) (bs : List ℕ) (r : Tally) : Type 0 where
+    counted : r .counted ≡ true
+    records : r .records ≡ s .records + total t g bs
+    keyless : key ≡ 0 → r .keys ≡ s .keys
+    keyed : (key ≡ 0 → ⊥) → r .keys ≡ passed t g key (s .keys) (recordsIn t g bs)
+
+  tally-good : (s : Tally) (bs : List ℕ) → s .counted ≡ true → countsGood t g bs ≡ true → Added s bs (foldl (addBlock t g key) s bs)
+  unfolding every total recordsIn addCount
+  tally-good s [] e h = record { counted = e; records = sym (add-zero (s .records)); keyless = λ z. refl; keyed = λ z. refl }
+  tally-good s (b ∷ bs) e h =
+      let p = both {a = isGood (countIn t g b)} {b = countsGood t g bs} h in
+      let n = held (countIn t g b) in
+      let a = tally-good (addCount t g key s b (Records n)) bs refl (p .1) in
+      rw (add-count s b e (Records n) (good-count (countIn t g b) (p .0)))
+      (record {
+        counted = a .counted;
+        records = a .records ∙ add-assoc (s .records) n (total t g bs);
+        keyless = λ z. a .keyless z ∙ run-keyless t g key b n (s .keys) z;
+        keyed = λ z.
+            a .keyed z
+            ∙ ap (λ (k : Keys). passed t g key k (recordsIn t g bs)) (run-passed t g key b n (s .keys) z)
+            ∙ sym (foldl-append (λ (k : Keys) (q : Position). nextKey t key k (recordAt g (q .block) (q .place))) (s .keys) (placesFrom b 0 n) (recordsIn t g bs));
+      })
+
+  -- every count was good before and is good in these blocks
+  pub tally-counted : (s : Tally) (bs : List ℕ) → foldl (addBlock t g key) s bs .counted ≡ (s .counted && countsGood t g bs)
+  tally-counted s bs = go (s .counted) refl (countsGood t g bs) refl
+    where
+      go : (c : Bool) → s .counted ≡ c → (d : Bool) → countsGood t g bs ≡ d → foldl (addBlock t g key) s bs .counted ≡ (c && d)
+      go false e d f = rw (tally-behind s bs e) e
+      go true e false f = tally-bad s bs e f
+      go true e true f = tally-good s bs e f .counted
+
+  -- where every count was good
+  module _ (s : Tally) (bs : List ℕ) (e : foldl (addBlock t g key) s bs .counted ≡ true) where
+    added : Added s bs (foldl (addBlock t g key) s bs)
+    added = let p = both {a = s .counted} {b = countsGood t g bs} (sym (tally-counted s bs) ∙ e) in tally-good s bs (p .0) (p .1)
+
+    -- the counts are added up
+    pub tally-records : foldl (addBlock t g key) s bs .records ≡ s .records + total t g bs
+    tally-records = added .records
+
+    -- the keys are judged
+    pub tally-keys : 1 ≤ key → isOrdered (foldl (addBlock t g key) s bs .keys) ≡ ascendAfter t key (s .keys) (map (keyAt t g key) (recordsIn t g bs))
+    tally-keys h = ap isOrdered (added .keyed (λ z. omega arith)) ∙ passed-ascend t g key (recordsIn t g bs) (s .keys)
+
+    -- of key length 0 no key is looked at
+    pub tally-keyless : key ≡ 0 → foldl (addBlock t g key) s bs .keys ≡ s .keys
+    tally-keyless = added .keyless
+
+  -- ---- the answer
+
+  -- key fields and a key length are there or not together
+  module _ (used : List ℕ) (keys : ℕ) (keyed : 1 ≤ keys → 1 ≤ key) (keyless : keys ≡ 0 → key ≡ 0) where
+    abbrev whole : Tally
+    whole = foldl (addBlock t g key) nothing used
+
+    -- where every count is good the tally's keys are judged as the rule says
+    keys-judged : whole .counted ≡ true → isOrdered (whole .keys) ≡ cond (leb 1 keys) (ascend (map (keyAt t g key) (recordsIn t g used))) true
+    unfolding nothing ascendAfter isOrdered
+    keys-judged e = go (leb 1 keys) refl
+      where
+        go : (c : Bool) → leb 1 keys ≡ c → isOrdered (whole .keys) ≡ cond c (ascend (map (keyAt t g key) (recordsIn t g used))) true
+        go true h = tally-keys nothing used e (keyed (leb-true 1 keys h))
+        go false h = ap isOrdered (tally-keyless nothing used e (keyless (omega (arith, leb-false 1 keys h))))
+
+    -- what the rules answer, with every count good or not
+    abbrev answer : Bool → ℕ → ℕ
+    answer good records =
+        firstBroken (good && eqb (total t g used) records) wrongCount
+        (firstBroken (leb (total t g used) mostRecords) tooManyRecords
+        (firstBroken (cond (leb 1 keys) (ascend (map (keyAt t g key) (recordsIn t g used))) true) keyOrder 0))
+
+    -- the tally of all used blocks answers what the rules do
+    pub tally-answer : (records : ℕ) → tallyAnswer (foldl (addBlock t g key) nothing used) records
+        ≡ firstBroken (countsGood t g used && eqb (total t g used) records) wrongCount
+        (firstBroken (leb (total t g used) mostRecords) tooManyRecords
+        (firstBroken (cond (leb 1 keys) (ascend (map (keyAt t g key) (recordsIn t g used))) true) keyOrder 0))
+    unfolding nothing tallyAnswer
+    tally-answer records = go (countsGood t g used) refl
+      where
+        go : (c : Bool) → countsGood t g used ≡ c → tallyAnswer whole records ≡ answer c records
+        go false h = rw (tally-bad nothing used refl h)
+        go true h = let a = tally-good nothing used refl h in rw (a .counted, a .records ∙ zero-add (total t g used), keys-judged (a .counted))
+
+  -- ---- what stays so from block to block
+
+  count-few : (b n : ℕ) → Sound t g → countIn t g b ≡ Records n → n ≤ g .block
+  unfolding countIn
+  count-few b n w e =
+      let m : 6 + n * g .size ≤ g .block = count-most (g .block) (g .size) (signed 32768 (word t (blockAt g b + 4))) n (omega (arith, w .size-most)) e in
+      omega (arith, m, mul-le-mul-left n (w .size-least))
+
+  -- a block adds at most 65,535 records
+  pub records-more : (s : Tally) (b : ℕ) → Sound t g → g .block ≤ 65535 → addBlock t g key s b .records ≤ s .records + 65535
+  unfolding addBlock addCount uncounted
+  records-more s b w h = go (s .counted) (countIn t g b) refl
+    where
+      go : (c : Bool) (n : Count) → countIn t g b ≡ n → cond c (addCount t g key s b n) s .records ≤ s .records + 65535
+      go true (Records n) e = omega (arith, count-few b n w e)
+      go true Bad e = omega arith
+      go false n e = omega arith
+
+  -- the last key passed is inside the table
+  pub key-stays : (s : Tally) (b : ℕ) → Sound t g → 1 ≤ b → b ≤ g .blocks → key ≤ g .size → KeyInside t key (s .keys) → KeyInside t key (addBlock t g key s b .keys)
+  unfolding addBlock addCount uncounted
+  key-stays s b w low high short k = go (s .counted) (countIn t g b) refl
+    where
+      go : (c : Bool) (n : Count) → countIn t g b ≡ n → KeyInside t key (cond c (addCount t g key s b n) s .keys)
+      go true (Records n) e = run-stays t g key b n (s .keys) (λ i l. omega (arith, counted-inside t g w b low high n e i l)) k
+      go true Bad e = unordered
+      go false n e = k

@@ -1,0 +1,32 @@
+-- The key rule (refusal 10): the keys of all records, as stored bytes. Definitions only.
+use Prim.Native.Nat.{ℕ}
+use mathlib.Core.Bool.{Bool, true, cond, _&&_}
+use mathlib.Core.List.{List, [], _∷_, map}
+use lib.Dec.{leb}
+use Rattle.words.specs.Order.{isLess, order, range}
+use Rattle.header.specs.declared.Header.{Header}
+use Rattle.blocks.specs.Shape.{shapeOf, recordAt}
+use Rattle.blocks.specs.declared.Shape.{Shape}
+use Rattle.table.specs.Records.{Position, recordsOf}
+
+-- a record's key: its first bytes, as many as the key length
+abbrev pub keyAt : List ℕ → Shape → ℕ → Position → List ℕ
+keyAt t g key p = range t (recordAt g (p .block) (p .place)) key
+
+-- the keys of a table's records, in chain order
+abbrev pub keysOf : List ℕ → Header → List (List ℕ)
+keysOf t h = map (keyAt t (shapeOf h) (h .key)) (recordsOf t h)
+
+-- each key is less than the one after it; a key stands before the first
+unfoldable pub ascendFrom : List ℕ → List (List ℕ) → Bool
+ascendFrom before [] = true
+ascendFrom before (key ∷ keys) = isLess (order before key) && ascendFrom key keys
+
+-- keys strictly ascend in byte order
+unfoldable pub ascend : List (List ℕ) → Bool
+ascend [] = true
+ascend (key ∷ keys) = ascendFrom key keys
+
+-- 10: with key fields, the keys of all records strictly ascend
+unfoldable pub keysAscend : List ℕ → Header → Bool
+keysAscend t h = cond (leb 1 (h .keys)) (ascend (keysOf t h)) true

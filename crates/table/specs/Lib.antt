@@ -1,0 +1,6 @@
+pub mod Records
+pub mod Counts
+pub mod Keys
+pub mod Table
+pub mod Rules
+pub mod Steps

@@ -1,0 +1,62 @@
+-- The table rules as plain propositions, and what an accepted table gives the crates above. Definitions only.
+use Prim.Native.Nat.{ℕ, suc, _≤_, _<_}
+use mathlib.Core.Path.{_≡_}
+use mathlib.Core.List.{List, [], map}
+use lib.ListN.{length, getD}
+use Rattle.words.specs.Order.{order}
+use Rattle.words.specs.declared.Order.the-variants.{Less}
+use Rattle.header.specs.Header.{mostRecords, headerOf}
+use Rattle.header.specs.Rules.{HeaderRules, Accepted}
+use Rattle.header.specs.declared.Header.{Header}
+use Rattle.blocks.specs.Shape.{shapeOf}
+use Rattle.blocks.specs.Counts.{countIn}
+use Rattle.blocks.specs.declared.Shape.{Shape}
+use Rattle.blocks.specs.declared.count.Count.the-variants.{Bad}
+use Rattle.chain.specs.Chain.{times}
+use Rattle.chain.specs.Links.{nextOf, linksOf, usedOf}
+use Rattle.chain.specs.Rules.{Chain, Inside, ChainRules}
+use Rattle.table.specs.Records.{Position, held, recordsIn, recordsOf}
+use Rattle.table.specs.Counts.{total}
+use Rattle.table.specs.Keys.{keyAt, keysOf}
+
+-- keys strictly ascend: each is less than the one after it
+abbrev pub Ascending : List (List ℕ) → Type 0
+Ascending keys = (i : ℕ) → suc i < length keys → order (getD keys i []) (getD keys (suc i) []) ≡ Less
+
+-- a record that is counted in one of some blocks: its place is below that block's count
+pub record Counted (t : List ℕ) (g : Shape) (bs : List ℕ) (p : Position) : Type 0 where
+  pub index : ℕ
+  pub inside : index < length bs
+  pub block-there : p .block ≡ getD bs index 0
+  pub place-below : p .place < held (countIn t g (getD bs index 0))
+
+-- rules 1 to 10 and 16
+pub record TableRules (t : List ℕ) : Type 0 where
+  -- 1 to 7
+  pub header : HeaderRules t
+  -- 8: the used and the free blocks, and the rules that they keep
+  pub used : List ℕ
+  pub free : List ℕ
+  pub chains : ChainRules (headerOf t .blocks) (linksOf t (headerOf t)) used free
+  -- 9: no used block's count is bad, and the counts add up to the header's
+  pub counts : (i : ℕ) → i < length used → countIn t (shapeOf (headerOf t)) (getD used i 0) ≡ Bad → ⊥
+  pub sum : total t (shapeOf (headerOf t)) used ≡ headerOf t .records
+  -- 16
+  pub few : total t (shapeOf (headerOf t)) used ≤ mostRecords
+  -- 10: with key fields, the keys of all records in chain order strictly ascend
+  pub keys : 1 ≤ headerOf t .keys → Ascending (map (keyAt t (shapeOf (headerOf t)) (headerOf t .key)) (recordsIn t (shapeOf (headerOf t)) used))
+
+-- what an accepted table gives the crates above
+pub record AcceptedTable (t : List ℕ) (h : Header) : Type 0 where
+  pub header : Accepted t h
+  -- the used blocks are the chain from the first block; it ends
+  pub chain : Chain (nextOf t (shapeOf h)) (h .first) (usedOf t h)
+  -- they are blocks of the file, each once, and so no more than it has
+  pub inside : Inside (h .blocks) (usedOf t h)
+  pub once : (b : ℕ) → times b (usedOf t h) ≤ 1
+  pub few-blocks : length (usedOf t h) ≤ h .blocks
+  -- their counts are good, and every record of the header's count is in the list of records
+  pub counts : (i : ℕ) → i < length (usedOf t h) → countIn t (shapeOf h) (getD (usedOf t h) i 0) ≡ Bad → ⊥
+  pub records : length (recordsOf t h) ≡ h .records
+  -- with key fields, of any two records the earlier has the lesser key
+  pub ascending : 1 ≤ h .keys → (i j : ℕ) → i < j → j < length (keysOf t h) → order (getD (keysOf t h) i []) (getD (keysOf t h) j []) ≡ Less

@@ -1,0 +1,50 @@
+-- The table check: 1 to 7, then 14 for the mark buffer, then 8, 9, 16, 10; and what it leaves in the mark buffer. Definitions only.
+use Prim.Native.Nat.{ℕ}
+use mathlib.Core.Bool.{Bool, cond}
+use mathlib.Core.List.{List, _++_}
+use lib.Dec.{eqb, leb}
+use lib.ListN.{length, replicate, drop}
+use Rattle.header.specs.Refusals.{chainRule, wrongCount, keyOrder, shortBuffer, tooManyRecords, firstBroken}
+use Rattle.header.specs.Header.{headerOf}
+use Rattle.header.specs.declared.Header.{Header}
+use Rattle.chain.specs.Chain.{chainsRight}
+use Rattle.chain.specs.Links.{linksOf, usedOf}
+use Rattle.chain.specs.Marks.{unmarked, marksOf}
+use Rattle.table.specs.Counts.{countsRight, sumFits}
+use Rattle.table.specs.Keys.{keysAscend}
+
+-- 8: the chains of a table keep the chain rules
+abbrev pub tableChained : List ℕ → Header → Bool
+tableChained t h = chainsRight (h .blocks) (linksOf t h)
+
+-- ---- the answer
+
+-- 8, 9, 16, 10: the first broken rule's number, or 0
+unfoldable pub recordsAnswer : List ℕ → Header → ℕ
+recordsAnswer t h =
+    firstBroken (tableChained t h) chainRule
+    (firstBroken (countsRight t h) wrongCount
+    (firstBroken (sumFits t h) tooManyRecords
+    (firstBroken (keysAscend t h) keyOrder 0)))
+
+-- 14 comes before them: a mark buffer of that many bytes has a byte for each block
+unfoldable pub blocksAnswer : List ℕ → Header → ℕ → ℕ
+blocksAnswer t h room = firstBroken (leb (h .blocks) room) shortBuffer (recordsAnswer t h)
+
+-- what checking a table answers, for any bytes and a mark buffer of that many bytes
+unfoldable pub tableAnswer : List ℕ → ℕ → ℕ
+tableAnswer t room = cond (eqb (headerOf t .refusal) 0) (blocksAnswer t (headerOf t) room) (headerOf t .refusal)
+
+-- ---- the mark buffer
+
+-- the marks of the blocks: 0 with 8, else 1 for a used block and 2 for a free one
+unfoldable pub blockMarks : List ℕ → Header → List ℕ
+blockMarks t h = cond (tableChained t h) (marksOf (h .blocks) (usedOf t h)) (replicate (h .blocks) unmarked)
+
+-- with 14 the buffer is unchanged, and its bytes past the blocks' never change
+unfoldable pub bufferAfter : List ℕ → Header → List ℕ → List ℕ
+bufferAfter t h m = cond (leb (h .blocks) (length m)) (blockMarks t h ++ drop (h .blocks) m) m
+
+-- what checking a table leaves in the mark buffer: with 1 to 7 it is unchanged
+unfoldable pub tableMarks : List ℕ → List ℕ → List ℕ
+tableMarks t m = cond (eqb (headerOf t .refusal) 0) (bufferAfter t (headerOf t) m) m

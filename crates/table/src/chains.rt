@@ -1,0 +1,49 @@
+// Both chains: the used one walked, then the free one, until every block has a mark.
+ghost use mathlib.Core.Path.{_≡_};
+ghost use Rattle.table.specs.Steps.{ChainsMarked, Markable};
+use crate::tally::Tally;
+use crate::walk::walk_used;
+use chain::marks;
+use chain::walk_free;
+use header::Header;
+
+// What the chains of a table come to.
+pub struct Chains {
+    // They keep the chain rules.
+    pub right: bool,
+    // What the used blocks come to; it counts for something where the chains are right.
+    pub tally: Tally,
+}
+
+// Marks the used and the free blocks, where no block has a mark yet.
+pub fn mark_chains(table: &[u8], h: Header, marks: &mut [u8]) -> Chains
+    requires { ⌜ Markable (now table) h (now marks) ⌝ }
+    ensures { λ r. ⌜ ChainsMarked (now (table .entry)) h r (now (marks .exit)) ⌝ }
+{
+    let shape = blocks::shape_of(h);
+    let used = walk_used(table, shape, h.key as usize, h.first as usize, marks);
+    let tally = used.tally;
+    if !used.whole {
+        return Chains {
+            right: false,
+            tally,
+        };
+    }
+    let last = h.last as usize;
+    if used.last != last {
+        return Chains {
+            right: false,
+            tally,
+        };
+    }
+    if !walk_free(table, shape, h.free as usize, marks) {
+        return Chains {
+            right: false,
+            tally,
+        };
+    }
+    Chains {
+        right: marks::all_marked(marks),
+        tally,
+    }
+}

@@ -1,0 +1,54 @@
+// The table check: chains, counts and key order of the used blocks, in one pass along each chain.
+mod chains;
+mod keys;
+mod tally;
+mod walk;
+
+ghost use mathlib.Core.Path.{_≡_};
+ghost use lib.ListN.{length};
+ghost use Rattle.header.specs.Rules.{Accepted};
+ghost use Rattle.table.specs.Table.{blockMarks, blocksAnswer, bufferAfter, recordsAnswer, tableAnswer, tableMarks};
+use chain::marks;
+use header::Header;
+use header::refusal;
+
+// Checks a table: 0, or the first of 1 to 7, 14, 8, 9, 16 and 10 that any bytes break. With 1 to 7 and 14
+// the mark buffer is as it was. With 8 the mark of every block is 0, else 1 for a used block and 2 for a
+// free one; bytes past those of the blocks never change.
+pub fn check(table: &[u8], marks: &mut [u8]) -> u8
+    ensures { λ r. ⌜ (r ≡ tableAnswer (now (table .entry)) (length (now (marks .entry)))) × (now (marks .exit) ≡ tableMarks (now (table .entry)) (now (marks .entry))) ⌝ }
+{
+    let h = header::read(table);
+    if h.refusal != refusal::ACCEPTED {
+        return h.refusal;
+    }
+    check_blocks(table, h, marks)
+}
+
+// The table check behind rules 1 to 7. A helper of the crates above, which have read the header.
+pub fn check_blocks(table: &[u8], h: Header, marks: &mut [u8]) -> u8
+    requires { ⌜ Accepted (now table) h ⌝ }
+    ensures { λ r. ⌜ (r ≡ blocksAnswer (now (table .entry)) h (length (now (marks .entry)))) × (now (marks .exit) ≡ bufferAfter (now (table .entry)) h (now (marks .entry))) ⌝ }
+{
+    let blocks = h.blocks as usize;
+    if marks.len() < blocks {
+        return refusal::SHORT_BUFFER;
+    }
+    check_records(table, h, &mut marks[..blocks])
+}
+
+// The same over one mark for each block.
+fn check_records(table: &[u8], h: Header, marks: &mut [u8]) -> u8
+    requires { ⌜ Accepted (now table) h × (length (now marks) ≡ h .blocks) ⌝ }
+    ensures { λ r. ⌜ (r ≡ recordsAnswer (now (table .entry)) h) × (now (marks .exit) ≡ blockMarks (now (table .entry)) h) ⌝ }
+{
+    let blocks = h.blocks as usize;
+    marks::clear(marks, blocks);
+    let chains = chains::mark_chains(table, h, marks);
+    if !chains.right {
+        marks::clear(marks, blocks);
+        return refusal::CHAIN_RULE;
+    }
+    let tally = chains.tally;
+    tally.answer(h.records)
+}
