@@ -1,7 +1,7 @@
 -- Two chains walked with marks keep the chain rules exactly where both walks go through and every block has a mark then. A mark
 -- counts as 1 where it is set; with how often a chain has a block, each rule is a sum. Assumes nothing.
 use Prim.Native.Nat.{ℕ, zero, suc, _+_, _-_, _≤_, _<_}
-use mathlib.Core.Path.{_≡_, refl, sym, ap, _∙_}
+use mathlib.Core.Path.{_≡_, refl, sym, _∙_}
 use mathlib.Core.Bool.{Bool, true, false, cond, not, _&&_}
 use mathlib.Core.List.{List, [], _∷_}
 use native.Mathlib.Omega.{arith}
@@ -16,10 +16,10 @@ use Rattle.words.proofs.EachLaws.{each-gives, each-takes}
 use Rattle.blocks.specs.Shape.{inFile}
 use Rattle.blocks.proofs.ShapeLaws.{in-file, file-has}
 use Rattle.chain.specs.Chain.{Links, every, times, everyBlockOnce, linked, names, lastOf, usedChain, freeChain, chainsRight}
-use Rattle.chain.specs.Marks.{markOf, marksOf}
+use Rattle.chain.specs.Marks.{marksOf}
 use Rattle.chain.specs.Steps.{isFresh, takes, walks, marked, hasMark, allMarked, anyTwo}
 use Rattle.chain.proofs.ListLaws.{marks-length, mark-at}
-use Rattle.chain.proofs.WalkLaws.{Fresh, fresh}
+use Rattle.chain.proofs.WalkLaws.{fresh}
 
 pub bool-same : (a b : Bool) → (a ≡ true → b ≡ true) → (b ≡ true → a ≡ true) → a ≡ b
 bool-same true b f g = sym (f refl)

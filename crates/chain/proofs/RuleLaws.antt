@@ -2,7 +2,7 @@
 -- are blocks. Assumes nothing.
 use Prim.Native.Nat.{ℕ, zero, suc, _+_, _-_, _≤_, _<_}
 use mathlib.Core.Path.{_≡_, refl, sym, ap, _∙_}
-use mathlib.Core.Bool.{Bool, true, false, cond, _&&_, false≢true}
+use mathlib.Core.Bool.{Bool, true, false, cond, false≢true}
 use mathlib.Core.List.{List, [], _∷_}
 use native.Mathlib.Omega.{arith}
 use native.Mathlib.Nat.{not-suc-le-zero, le-of-suc-le-suc}
@@ -13,9 +13,10 @@ use Rattle.words.proofs.Conjunctions.{both, join}
 use Rattle.blocks.specs.Shape.{inFile}
 use Rattle.blocks.proofs.ShapeLaws.{in-file, file-has}
 use Rattle.chain.specs.Chain.{Links, follow, every, times, linked, names, lastOf, usedChain, freeChain, chainsRight}
+use Rattle.chain.specs.Marks.{usedMark, freeMark, markOf, marksOf}
 use Rattle.chain.specs.Rules.{Chain, ends, leads, Inside, ChainRules}
-use Rattle.chain.proofs.ListLaws.{every-gives, every-takes}
-use Rattle.chain.proofs.MarkLaws.{Right, right-gives, right-takes}
+use Rattle.chain.proofs.ListLaws.{every-gives, every-takes, mark-at}
+use Rattle.chain.proofs.MarkLaws.{right-gives, right-takes}
 use Rattle.chain.proofs.SumLaws.{once-length}
 
 -- ---- following next
@@ -120,6 +121,9 @@ module _ (n : ℕ) (l : Links) where
     pub free-is : free ≡ vs
     free-is = follow-is (l .next) (suc n) (l .free) vs (r .free-chain) (omega (arith, rules-length us vs r))
 
+    marked-as : (b : ℕ) → 1 ≤ b → b ≤ n → getD (marksOf n us) (b - 1) 0 ≡ markOf us b
+    marked-as b low high = let e : suc (b - 1) ≡ b = omega arith in mark-at n us (b - 1) (omega arith) ∙ ap (markOf us) e
+
     pub rules-take : chainsRight n l ≡ true
     rules-take =
         right-takes n l (record {
@@ -129,3 +133,10 @@ module _ (n : ℕ) (l : Links) where
           named = rw used-is (linked-takes (l .previous) 0 us (r .first-previous) (r .predecessors));
           ends = rw used-is (eq-eqb (lastOf 0 us) (l .last) (r .ends-at));
         })
+
+    -- block b's mark: 1 where the used chain has it, 2 where the free chain has it
+    pub used-marked : (b : ℕ) → 1 ≤ b → b ≤ n → times b us ≡ 1 → getD (marksOf n us) (b - 1) 0 ≡ usedMark
+    used-marked b low high e = marked-as b low high ∙ rw e
+
+    pub free-marked : (b : ℕ) → 1 ≤ b → b ≤ n → times b vs ≡ 1 → getD (marksOf n us) (b - 1) 0 ≡ freeMark
+    free-marked b low high e = let z : times b us ≡ 0 = omega (arith, r .once b low high) in marked-as b low high ∙ rw z

@@ -1,16 +1,14 @@
 -- What the two walks and the look for a block without a mark say of a table's chains. Assumes nothing.
 use Prim.Native.Nat.{ℕ}
-use mathlib.Core.Path.{_≡_, refl, sym, ap, _∙_}
+use mathlib.Core.Path.{_≡_, sym, ap, _∙_}
 use mathlib.Core.Bool.{Bool, true, false, false≢true, _&&_}
 use mathlib.Core.List.{List, foldl}
-use lib.Dec.{eqb}
 use lib.ListN.{length, replicate, length-replicate}
 use borrow.Author.Tests.{eq-eqb, ne-eqb}
 use Rattle.header.specs.declared.Header.{Header}
 use Rattle.blocks.specs.Shape.{shapeOf}
 use Rattle.chain.specs.Chain.{names, lastOf}
-use Rattle.chain.specs.Links.{nextOf, previousOf, linksOf, usedOf, freeOf}
-use Rattle.chain.specs.Marks.{marksOf}
+use Rattle.chain.specs.Links.{previousOf, linksOf, usedOf, freeOf}
 use Rattle.chain.specs.Steps.{walks, marked, allMarked, anyTwo, FreeWalked}
 use Rattle.chain.proofs.MarkLaws.{rule-is, marks-are, marked-length}
 use Rattle.table.specs.Table.{tableChained}

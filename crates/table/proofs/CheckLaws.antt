@@ -1,10 +1,9 @@
 -- What each answer of the table check says, and what it leaves in the mark buffer. Assumes nothing.
-use Prim.Native.Nat.{ℕ, zero, suc, _≤_, _<_}
-use mathlib.Core.Path.{_≡_, refl, sym, ap, _∙_}
-use mathlib.Core.Bool.{Bool, true, false}
+use Prim.Native.Nat.{ℕ, _≤_, _<_}
+use mathlib.Core.Path.{_≡_, _∙_}
+use mathlib.Core.Bool.{true, false}
 use mathlib.Core.List.{List, _++_, foldl}
-use native.Mathlib.Omega.{arith}
-use lib.ListN.{length, replicate, drop, length-replicate}
+use lib.ListN.{length, replicate, drop}
 use borrow.Author.Tests.{eq-eqb, ne-eqb, le-leb, lt-leb}
 use Rattle.header.specs.Header.{headerOf}
 use Rattle.header.specs.Rules.{Accepted}
@@ -17,7 +16,6 @@ use Rattle.table.specs.Counts.{countsRight, sumFits}
 use Rattle.table.specs.Keys.{keysAscend}
 use Rattle.table.specs.Table.{tableChained, recordsAnswer, blocksAnswer, tableAnswer, blockMarks, bufferAfter, tableMarks}
 use Rattle.table.specs.Steps.{nothing, addBlock, tallyAnswer}
-use Rattle.table.specs.declared.tally.Tally.{Tally}
 use Rattle.table.proofs.TallyLaws.{tally-answer}
 
 -- ---- 8, 9, 16, 10

@@ -5,3 +5,4 @@ pub mod UsedLaws
 pub mod ChainsLaws
 pub mod CheckLaws
 pub mod RuleLaws
+pub mod BufferLaws

@@ -1,24 +1,23 @@
 -- Demand 2 for tables: with a mark for each block the answer is 0 exactly when `TableRules` holds; and what an accepted table gives.
 -- Assumes nothing.
-use Prim.Native.Nat.{ℕ, zero, suc, _+_, _≤_, _<_}
-use mathlib.Core.Path.{_≡_, refl, sym, ap, _∙_}
-use mathlib.Core.Bool.{Bool, true, false, cond, _&&_}
-use mathlib.Core.List.{List, map}
+use Prim.Native.Nat.{ℕ, zero, suc, _≤_}
+use mathlib.Core.Path.{_≡_, refl, _∙_}
+use mathlib.Core.Bool.{Bool, true, false, cond}
+use mathlib.Core.List.{List}
 use native.Mathlib.Omega.{arith}
 use lib.Dec.{eqb, leb, eqb·suc-zero}
-use lib.ListN.{length}
-use borrow.Author.Tests.{eq-eqb, eqb-true, le-leb, lt-leb, leb-true, leb-false}
+use borrow.Author.Tests.{eq-eqb, eqb-true, le-leb, leb-true}
 use Rattle.words.proofs.Conjunctions.{both, join}
 use Rattle.header.specs.Header.{headerOf, mostRecords}
+use Rattle.header.specs.Rules.{Accepted}
 use Rattle.header.specs.declared.Header.{Header}
 use Rattle.header.proofs.AcceptedLaws.{accepted, accepted-gives, accepted-takes}
 use Rattle.blocks.specs.Shape.{shapeOf}
 use Rattle.chain.specs.Links.{linksOf, usedOf, freeOf}
 use Rattle.chain.specs.Rules.{ChainRules}
 use Rattle.chain.proofs.RuleLaws.{rules-give, rules-take, rules-length, rules-once, used-is}
-use Rattle.table.specs.Records.{recordsIn, recordsOf}
 use Rattle.table.specs.Counts.{countsGood, total, countsRight, sumFits}
-use Rattle.table.specs.Keys.{keyAt, keysOf, ascend, keysAscend}
+use Rattle.table.specs.Keys.{keysOf, ascend, keysAscend}
 use Rattle.table.specs.Table.{tableChained, recordsAnswer, blocksAnswer, tableAnswer}
 use Rattle.table.specs.Rules.{Ascending, TableRules, AcceptedTable}
 use Rattle.table.proofs.RecordLaws.{records-total, counts-give, counts-take, ascend-gives, ascend-takes, ascending-pairs}
@@ -55,11 +54,13 @@ accepted-first : (n rest : ℕ) → cond (eqb n 0) rest n ≡ 0 → (n ≡ 0) ×
 accepted-first zero rest e = (refl, e)
 accepted-first (suc n) rest e = absurd (let z : suc n ≡ 0 = rw eqb·suc-zero at e in omega arith)
 
-answer-zero : (t : List ℕ) (room : ℕ) → tableAnswer t room ≡ 0 → (headerOf t .refusal ≡ 0) × Kept t (headerOf t)
-unfolding tableAnswer blocksAnswer
-answer-zero t room e =
-    let p = accepted-first (headerOf t .refusal) (blocksAnswer t (headerOf t) room) e in
-    (p .0, records-give t (headerOf t) (kept (leb (headerOf t .blocks) room) 13 (recordsAnswer t (headerOf t)) (p .1) .1))
+answer-parts : (t : List ℕ) (room : ℕ) → tableAnswer t room ≡ 0 → (headerOf t .refusal ≡ 0) × (blocksAnswer t (headerOf t) room ≡ 0)
+unfolding tableAnswer
+answer-parts t room e = accepted-first (headerOf t .refusal) (blocksAnswer t (headerOf t) room) e
+
+blocks-give : (t : List ℕ) (h : Header) (room : ℕ) → blocksAnswer t h room ≡ 0 → Kept t h
+unfolding blocksAnswer
+blocks-give t h room e = records-give t h (kept (leb (h .blocks) room) 13 (recordsAnswer t h) e .1)
 
 -- ---- the tests are the propositions
 
@@ -81,17 +82,18 @@ module _ (t : List ℕ) (room : ℕ) where
   unfolding countsRight sumFits
   table-gives e =
       let h = headerOf t in
-      let p = answer-zero t room e in
-      let c = both {a = countsGood t (shapeOf h) (usedOf t h)} {b = eqb (total t (shapeOf h) (usedOf t h)) (h .records)} (p .1 .counts) in
+      let p = answer-parts t room e in
+      let k = blocks-give t h room (p .1) in
+      let c = both {a = countsGood t (shapeOf h) (usedOf t h)} {b = eqb (total t (shapeOf h) (usedOf t h)) (h .records)} (k .counts) in
       record {
         header = accepted-gives t (p .0);
         used = usedOf t h;
         free = freeOf t h;
-        chains = rules-give (h .blocks) (linksOf t h) (p .1 .chains);
+        chains = rules-give (h .blocks) (linksOf t h) (k .chains);
         counts = counts-give t (shapeOf h) (usedOf t h) (c .0);
         sum = eqb-true (total t (shapeOf h) (usedOf t h)) (h .records) (c .1);
-        few = leb-true (total t (shapeOf h) (usedOf t h)) mostRecords (p .1 .few);
-        keys = keys-give t h (p .1 .keys);
+        few = leb-true (total t (shapeOf h) (usedOf t h)) mostRecords (k .few);
+        keys = keys-give t h (k .keys);
       }
 
   -- a table that meets the rules is accepted, where the mark buffer has a byte for each block
@@ -111,25 +113,28 @@ module _ (t : List ℕ) (room : ℕ) where
 
 -- ---- what an accepted table gives
 
-module _ (t : List ℕ) (room : ℕ) (e : tableAnswer t room ≡ 0) where
-  abbrev h : Header
-  h = headerOf t
+-- behind an accepted header
+module _ (t : List ℕ) (h : Header) (a : Accepted t h) (room : ℕ) (e : blocksAnswer t h room ≡ 0) where
+  tests : Kept t h
+  tests = blocks-give t h room e
 
   chained : ChainRules (h .blocks) (linksOf t h) (usedOf t h) (freeOf t h)
-  chained = rules-give (h .blocks) (linksOf t h) (answer-zero t room e .1 .chains)
+  chained = rules-give (h .blocks) (linksOf t h) (tests .chains)
 
-  pub accepted-table : AcceptedTable t h
+  pub accepted-blocks : AcceptedTable t h
   unfolding countsRight
-  accepted-table =
-      let p = answer-zero t room e in
-      let c = both {a = countsGood t (shapeOf h) (usedOf t h)} {b = eqb (total t (shapeOf h) (usedOf t h)) (h .records)} (p .1 .counts) in
+  accepted-blocks =
+      let c = both {a = countsGood t (shapeOf h) (usedOf t h)} {b = eqb (total t (shapeOf h) (usedOf t h)) (h .records)} (tests .counts) in
       record {
-        header = accepted t (p .0);
+        header = a;
         chain = chained .used-chain;
         inside = chained .used-inside;
         once = rules-once (h .blocks) (linksOf t h) (usedOf t h) (freeOf t h) chained;
         few-blocks = omega (arith, rules-length (h .blocks) (linksOf t h) (usedOf t h) (freeOf t h) chained);
         counts = counts-give t (shapeOf h) (usedOf t h) (c .0);
         records = records-total t (shapeOf h) (usedOf t h) ∙ eqb-true (total t (shapeOf h) (usedOf t h)) (h .records) (c .1);
-        ascending = λ k. ascending-pairs (keysOf t h) (keys-give t h (p .1 .keys) k);
+        ascending = λ k. ascending-pairs (keysOf t h) (keys-give t h (tests .keys) k);
       }
+
+pub accepted-table : (t : List ℕ) (room : ℕ) → tableAnswer t room ≡ 0 → AcceptedTable t (headerOf t)
+accepted-table t room e = let p = answer-parts t room e in accepted-blocks t (headerOf t) (accepted t (p .0)) room (p .1)

@@ -1,18 +1,17 @@
 -- The walk along the used chain, tallied on the way: what holds at each block, and what it comes to. Assumes nothing.
-use Prim.Native.Nat.{ℕ, _+_, _-_, _*_, _≤_, _<_}
-use mathlib.Core.Path.{_≡_, refl, sym, _∙_}
-use mathlib.Core.Bool.{Bool, true, false, false≢true, _&&_}
-use mathlib.Core.List.{List, foldl}
+use Prim.Native.Nat.{ℕ, _+_, _-_, _*_, _≤_}
+use mathlib.Core.Path.{_≡_, sym, _∙_}
+use mathlib.Core.Bool.{true, false, false≢true}
+use mathlib.Core.List.{List}
 use native.Mathlib.Omega.{arith}
-use lib.Dec.{eqb}
 use lib.ListN.{length, set}
 use borrow.Author.Tests.{eq-eqb, ne-eqb}
 use Rattle.blocks.specs.Shape.{Sound}
 use Rattle.blocks.specs.declared.Shape.{Shape}
 use Rattle.chain.specs.Chain.{chainFrom, times, names}
 use Rattle.chain.specs.Links.{nextOf, previousOf}
-use Rattle.chain.specs.Steps.{isFresh, takes, walks}
-use Rattle.chain.proofs.WalkLaws.{Fresh, fresh, fewer, times-most, Going, begin, step, broken, whole-judged, whole-ended, whole-stored, whole-gathered}
+use Rattle.chain.specs.Steps.{isFresh, takes}
+use Rattle.chain.proofs.WalkLaws.{fresh, fewer, times-most, Going, begin, step, broken, whole-judged, whole-ended, whole-stored, whole-gathered}
 use Rattle.table.specs.Steps.{KeyInside, none, nothing, addBlock, Walkable, UsedWalked}
 use Rattle.table.specs.declared.tally.Tally.{Tally}
 use Rattle.table.specs.declared.walk.Walk.{Walk}

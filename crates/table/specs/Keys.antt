@@ -7,15 +7,20 @@ use Rattle.words.specs.Order.{isLess, order, range}
 use Rattle.header.specs.declared.Header.{Header}
 use Rattle.blocks.specs.Shape.{shapeOf, recordAt}
 use Rattle.blocks.specs.declared.Shape.{Shape}
-use Rattle.table.specs.Records.{Position, recordsOf}
+use Rattle.chain.specs.Links.{usedOf}
+use Rattle.table.specs.Records.{Position, recordsIn}
 
 -- a record's key: its first bytes, as many as the key length
 abbrev pub keyAt : List ℕ → Shape → ℕ → Position → List ℕ
 keyAt t g key p = range t (recordAt g (p .block) (p .place)) key
 
+-- the keys of the records of some blocks, block by block
+abbrev pub keysIn : List ℕ → Shape → ℕ → List ℕ → List (List ℕ)
+keysIn t g key bs = map (keyAt t g key) (recordsIn t g bs)
+
 -- the keys of a table's records, in chain order
 abbrev pub keysOf : List ℕ → Header → List (List ℕ)
-keysOf t h = map (keyAt t (shapeOf h) (h .key)) (recordsOf t h)
+keysOf t h = keysIn t (shapeOf h) (h .key) (usedOf t h)
 
 -- each key is less than the one after it; a key stands before the first
 unfoldable pub ascendFrom : List ℕ → List (List ℕ) → Bool

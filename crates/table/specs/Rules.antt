@@ -1,10 +1,11 @@
 -- The table rules as plain propositions, and what an accepted table gives the crates above. Definitions only.
 use Prim.Native.Nat.{ℕ, suc, _≤_, _<_}
 use mathlib.Core.Path.{_≡_}
-use mathlib.Core.List.{List, [], map}
-use lib.ListN.{length, getD}
+use mathlib.Core.List.{List, [], _++_}
+use lib.ListN.{length, getD, replicate, drop}
 use Rattle.words.specs.Order.{order}
 use Rattle.words.specs.declared.Order.the-variants.{Less}
+use Rattle.header.specs.Refusals.{fieldRule, chainRule, wrongCount, keyOrder, shortBuffer, tooManyRecords}
 use Rattle.header.specs.Header.{mostRecords, headerOf}
 use Rattle.header.specs.Rules.{HeaderRules, Accepted}
 use Rattle.header.specs.declared.Header.{Header}
@@ -14,10 +15,11 @@ use Rattle.blocks.specs.declared.Shape.{Shape}
 use Rattle.blocks.specs.declared.count.Count.the-variants.{Bad}
 use Rattle.chain.specs.Chain.{times}
 use Rattle.chain.specs.Links.{nextOf, linksOf, usedOf}
+use Rattle.chain.specs.Marks.{unmarked, marksOf}
 use Rattle.chain.specs.Rules.{Chain, Inside, ChainRules}
-use Rattle.table.specs.Records.{Position, held, recordsIn, recordsOf}
+use Rattle.table.specs.Records.{Position, held, recordsOf}
 use Rattle.table.specs.Counts.{total}
-use Rattle.table.specs.Keys.{keyAt, keysOf}
+use Rattle.table.specs.Keys.{keysIn, keysOf}
 
 -- keys strictly ascend: each is less than the one after it
 abbrev pub Ascending : List (List ℕ) → Type 0
@@ -44,7 +46,7 @@ pub record TableRules (t : List ℕ) : Type 0 where
   -- 16
   pub few : total t (shapeOf (headerOf t)) used ≤ mostRecords
   -- 10: with key fields, the keys of all records in chain order strictly ascend
-  pub keys : 1 ≤ headerOf t .keys → Ascending (map (keyAt t (shapeOf (headerOf t)) (headerOf t .key)) (recordsIn t (shapeOf (headerOf t)) used))
+  pub keys : 1 ≤ headerOf t .keys → Ascending (keysIn t (shapeOf (headerOf t)) (headerOf t .key) used)
 
 -- what an accepted table gives the crates above
 pub record AcceptedTable (t : List ℕ) (h : Header) : Type 0 where
@@ -60,3 +62,21 @@ pub record AcceptedTable (t : List ℕ) (h : Header) : Type 0 where
   pub records : length (recordsOf t h) ≡ h .records
   -- with key fields, of any two records the earlier has the lesser key
   pub ascending : 1 ≤ h .keys → (i j : ℕ) → i < j → j < length (keysOf t h) → order (getD (keysOf t h) i []) (getD (keysOf t h) j []) ≡ Less
+
+-- ---- the mark buffer m by the answer
+
+-- behind the marks of its blocks, where they are written, the buffer stays
+abbrev pub noted : List ℕ → List ℕ → List ℕ
+noted t m = marksOf (headerOf t .blocks) (usedOf t (headerOf t)) ++ drop (headerOf t .blocks) m
+
+pub data MarksLeft (t m : List ℕ) : ℕ → List ℕ → Type 0 where
+  -- 1 to 7 and 14: unchanged
+  by-header : {a : ℕ} → 1 ≤ a → a ≤ fieldRule → MarksLeft t m a m
+  by-buffer : MarksLeft t m shortBuffer m
+  -- 8: the mark of every block is 0
+  by-chains : MarksLeft t m chainRule (replicate (headerOf t .blocks) unmarked ++ drop (headerOf t .blocks) m)
+  -- 9, 16, 10 and acceptance: 1 for a used block and 2 for a free one
+  by-counts : MarksLeft t m wrongCount (noted t m)
+  by-sum : MarksLeft t m tooManyRecords (noted t m)
+  by-keys : MarksLeft t m keyOrder (noted t m)
+  accepting : MarksLeft t m 0 (noted t m)

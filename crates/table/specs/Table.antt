@@ -27,11 +27,11 @@ recordsAnswer t h =
     (firstBroken (sumFits t h) tooManyRecords
     (firstBroken (keysAscend t h) keyOrder 0)))
 
--- 14 comes before them: a mark buffer of that many bytes has a byte for each block
+-- 14 comes before them: a mark buffer of `room` bytes has one for each block
 unfoldable pub blocksAnswer : List ℕ → Header → ℕ → ℕ
 blocksAnswer t h room = firstBroken (leb (h .blocks) room) shortBuffer (recordsAnswer t h)
 
--- what checking a table answers, for any bytes and a mark buffer of that many bytes
+-- what checking a table answers, for any bytes and a mark buffer of `room` bytes
 unfoldable pub tableAnswer : List ℕ → ℕ → ℕ
 tableAnswer t room = cond (eqb (headerOf t .refusal) 0) (blocksAnswer t (headerOf t) room) (headerOf t .refusal)
 

@@ -1,5 +1,4 @@
 // Both chains: the used one walked, then the free one, until every block has a mark.
-ghost use mathlib.Core.Path.{_≡_};
 ghost use Rattle.table.specs.Steps.{ChainsMarked, Markable};
 use crate::tally::Tally;
 use crate::walk::walk_used;

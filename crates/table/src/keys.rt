@@ -51,7 +51,7 @@ pub fn with_records(
             let first = blocks::record_at(shape, block, 0);
             ascend(table, shape, key, first, block, 1, count)
         }
-        Keys::Last(last) => ascend(table, shape, key, last, block, 0, count),
+        Keys::Last(before) => ascend(table, shape, key, before, block, 0, count),
         Keys::Unordered => Keys::Unordered,
     }
 }

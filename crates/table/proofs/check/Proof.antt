@@ -1,7 +1,5 @@
 -- `check` meets its contract: 1 to 7, then the check behind them. Assumes nothing.
 use mathlib.Core.Path.{_≡_, sym, ap, _∙_}
-use mathlib.Core.List.{List}
-use Prim.Native.Nat.{ℕ}
 use lib.ListN.{length}
 use borrow.Author.Needs.{needs}
 use Rattle.header.specs.Header.{headerOf}

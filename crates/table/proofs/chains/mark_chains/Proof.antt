@@ -1,6 +1,6 @@
 -- `mark_chains` meets its contract, answer by answer (ChainsLaws). Assumes nothing.
-use mathlib.Core.Path.{_≡_, refl, sym, ap, _∙_}
-use mathlib.Core.Bool.{true, false}
+use mathlib.Core.Path.{_≡_, refl, ap, _∙_}
+use mathlib.Core.Bool.{true}
 use mathlib.Core.List.{List}
 use Prim.Native.Nat.{ℕ}
 use lib.ListN.{length, replicate, length-replicate}
@@ -10,7 +10,7 @@ use Rattle.header.specs.declared.Header.{Header}
 use Rattle.blocks.specs.Shape.{shapeOf}
 use Rattle.blocks.proofs.ShapeLaws.{sound, shape-size, shape-blocks}
 use Rattle.chain.specs.Steps.{FreeWalked}
-use Rattle.table.specs.Steps.{Markable, UsedWalked}
+use Rattle.table.specs.Steps.{UsedWalked}
 use Rattle.table.specs.declared.walk.Walk.{Walk}
 use Rattle.table.proofs.ChainsLaws.{chains-wrong, used-broken, last-wrong, marks-stay, free-broken, chains-marked}
 use Rattle.table.proofs.chains.mark_chains.Statement.{statement}

@@ -1,0 +1,45 @@
+-- The mark buffer by the answer's number: unchanged with 1 to 7 and 14, cleared with 8, else the marks of both chains. Assumes nothing.
+use Prim.Native.Nat.{ℕ, zero, suc, _≤_}
+use mathlib.Core.Bool.{Bool, true, false, cond}
+use mathlib.Core.List.{List, _++_}
+use native.Mathlib.Omega.{arith}
+use lib.Dec.{eqb, leb, eqb·suc-zero}
+use lib.ListN.{length, replicate, drop}
+use Rattle.header.specs.Header.{headerOf}
+use Rattle.header.proofs.AcceptedLaws.{refusal-most}
+use Rattle.chain.specs.Links.{usedOf}
+use Rattle.chain.specs.Marks.{marksOf}
+use Rattle.table.specs.Counts.{countsRight, sumFits}
+use Rattle.table.specs.Keys.{keysAscend}
+use Rattle.table.specs.Table.{tableChained, recordsAnswer, blocksAnswer, tableAnswer, blockMarks, bufferAfter, tableMarks}
+use Rattle.table.specs.Rules.{MarksLeft, by-header, by-buffer, by-chains, by-counts, by-sum, by-keys, accepting}
+
+module _ (t m : List ℕ) where
+  -- 8, 9, 16, 10, by the tests of the rules
+  by-rules : (chains counts few keys : Bool)
+      → MarksLeft t m (cond chains (cond counts (cond few (cond keys 0 10) 16) 9) 8)
+      (cond chains (marksOf (headerOf t .blocks) (usedOf t (headerOf t))) (replicate (headerOf t .blocks) 0) ++ drop (headerOf t .blocks) m)
+  by-rules false counts few keys = by-chains
+  by-rules true false few keys = by-counts
+  by-rules true true false keys = by-sum
+  by-rules true true true false = by-keys
+  by-rules true true true true = accepting
+
+  -- 14 comes before them
+  by-room : (room : Bool) (a : ℕ) (marks : List ℕ) → MarksLeft t m a marks → MarksLeft t m (cond room a 14) (cond room marks m)
+  by-room true a marks k = k
+  by-room false a marks k = by-buffer
+
+  -- 1 to 7 come first
+  by-number : (n a : ℕ) (marks : List ℕ) → n ≤ 7 → MarksLeft t m a marks → MarksLeft t m (cond (eqb n 0) a n) (cond (eqb n 0) marks m)
+  by-number zero a marks h k = k
+  by-number (suc n) a marks h k = rw eqb·suc-zero (by-header {a = suc n} (omega arith) h)
+
+  -- what the check leaves in the mark buffer, by its answer
+  pub marks-left : MarksLeft t m (tableAnswer t (length m)) (tableMarks t m)
+  unfolding tableAnswer tableMarks blocksAnswer bufferAfter recordsAnswer blockMarks
+  marks-left =
+      let h = headerOf t in
+      by-number (h .refusal) (blocksAnswer t h (length m)) (bufferAfter t h m) (refusal-most t)
+      (by-room (leb (h .blocks) (length m)) (recordsAnswer t h) (blockMarks t h ++ drop (h .blocks) m)
+      (by-rules (tableChained t h) (countsRight t h) (sumFits t h) (keysAscend t h)))
