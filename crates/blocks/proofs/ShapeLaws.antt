@@ -10,6 +10,7 @@ use native.Mathlib.Omega.{arith}
 use lib.Dec.{leb}
 use lib.ListN.{length}
 use borrow.Author.Tests.{leb-true, le-leb}
+use Rattle.header.specs.Header.{blockHead}
 use Rattle.header.specs.Rules.{Accepted}
 use Rattle.header.specs.declared.Header.{Header}
 use Rattle.blocks.specs.Shape.{shapeOf, inFile, hasBlock, blockAt, Sound}
@@ -55,3 +56,7 @@ words-product a b h k = mul-le-mul {n₁ = a} {m₁ = b} {n₂ = 65535} {m₂ = 
 module _ (t : List ℕ) (g : Shape) (s : Sound t g) (b : ℕ) (low : 1 ≤ b) (high : b ≤ g .blocks) where
   pub block-inside : blockAt g b + g .block ≤ length t
   block-inside = omega (arith, s .whole, blocks-fit (g .block) b (g .blocks) low high)
+
+  -- and so is its head
+  pub head-inside : blockAt g b + blockHead ≤ length t
+  head-inside = omega (arith, block-inside, s .size-most)

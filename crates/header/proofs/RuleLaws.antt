@@ -182,7 +182,7 @@ fields-take t s r =
 -- ---- all seven
 
 -- a kept rule leaves the answer to the rules after it; a broken one with a number above 0 gives that number
-kept-of : (b : Bool) (n rest : ℕ) → cond b rest (suc n) ≡ 0 → (b ≡ true) × (rest ≡ 0)
+pub kept-of : (b : Bool) (n rest : ℕ) → cond b rest (suc n) ≡ 0 → (b ≡ true) × (rest ≡ 0)
 kept-of true n rest e = (refl, e)
 kept-of false n rest e = absurd (let z : _≡_ {A = ℕ} 0 1 = cc in omega arith)
 

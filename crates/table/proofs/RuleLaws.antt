@@ -12,6 +12,7 @@ use Rattle.header.specs.Header.{headerOf, mostRecords}
 use Rattle.header.specs.Rules.{Accepted}
 use Rattle.header.specs.declared.Header.{Header}
 use Rattle.header.proofs.AcceptedLaws.{accepted, accepted-gives, accepted-takes}
+use Rattle.header.proofs.RuleLaws.{kept-of}
 use Rattle.blocks.specs.Shape.{shapeOf}
 use Rattle.chain.specs.Links.{linksOf, usedOf, freeOf}
 use Rattle.chain.specs.Rules.{ChainRules}
@@ -24,11 +25,6 @@ use Rattle.table.proofs.RecordLaws.{records-total, counts-give, counts-
 
 -- ---- the answer is 0 exactly when every test holds
 
--- a rule whose number is not 0: an answer of 0 keeps it
-kept : (b : Bool) (n rest : ℕ) → cond b rest (suc n) ≡ 0 → (b ≡ true) × (rest ≡ 0)
-kept true n rest e = (refl, e)
-kept false n rest e = absurd (let z : _≡_ {A = ℕ} 0 1 = cc in omega arith)
-
 -- the tests of a table, apart
 record Kept (t : List ℕ) (h : Header) : Type 0 where
   chains : tableChained t h ≡ true
@@ -39,10 +35,10 @@ record Kept (t : List ℕ) (h : Header) : Type 0 where
 records-give : (t : List ℕ) (h : Header) → recordsAnswer t h ≡ 0 → Kept t h
 unfolding recordsAnswer
 records-give t h e =
-    let p₁ = kept (tableChained t h) 7 _ e in
-    let p₂ = kept (countsRight t h) 8 _ (p₁ .1) in
-    let p₃ = kept (sumFits t h) 15 _ (p₂ .1) in
-    let p₄ = kept (keysAscend t h) 9 0 (p₃ .1) in
+    let p₁ = kept-of (tableChained t h) 7 _ e in
+    let p₂ = kept-of (countsRight t h) 8 _ (p₁ .1) in
+    let p₃ = kept-of (sumFits t h) 15 _ (p₂ .1) in
+    let p₄ = kept-of (keysAscend t h) 9 0 (p₃ .1) in
     record { chains = p₁ .0; counts = p₂ .0; few = p₃ .0; keys = p₄ .0 }
 
 records-take : (t : List ℕ) (h : Header) → Kept t h → recordsAnswer t h ≡ 0
@@ -60,7 +56,7 @@ answer-parts t room e = accepted-first (headerOf t .refusal) (blocksAnswer t (he
 
 blocks-give : (t : List ℕ) (h : Header) (room : ℕ) → blocksAnswer t h room ≡ 0 → Kept t h
 unfolding blocksAnswer
-blocks-give t h room e = records-give t h (kept (leb (h .blocks) room) 13 (recordsAnswer t h) e .1)
+blocks-give t h room e = records-give t h (kept-of (leb (h .blocks) room) 13 (recordsAnswer t h) e .1)
 
 -- ---- the tests are the propositions
 

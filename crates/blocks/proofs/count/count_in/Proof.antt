@@ -8,7 +8,7 @@ use Rattle.words.specs.Numbers.{word}
 use Rattle.words.specs.Signed.{signed}
 use Rattle.blocks.specs.Shape.{blockAt}
 use Rattle.blocks.specs.Counts.{countOf, countIn}
-use Rattle.blocks.proofs.ShapeLaws.{block-inside}
+use Rattle.blocks.proofs.ShapeLaws.{head-inside}
 use Rattle.blocks.proofs.count.count_in.Statement.{statement}
 use Rattle.blocks.proofs.count.count_in.Tie as tie
 
@@ -20,7 +20,7 @@ inside : (c : tie.After-block-at) → let v = c .before .before .args in blockAt
 inside c =
     let v = c .before .before .args in
     let p = c .before .before .pre in
-    omega (arith, block-inside (v .file .now) (v .shape) (p .2) (v .block) (p .0) (p .1), p .2 .size-most)
+    head-inside (v .file .now) (v .shape) (p .2) (v .block) (p .0) (p .1)
 
 add-word : tie.Need-add-word
 add-word c = omega (arith, c .block-at .ensures, inside c)

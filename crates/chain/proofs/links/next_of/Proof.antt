@@ -4,7 +4,7 @@ use native.Mathlib.Omega.{arith}
 use mathlib.Core.Path.{ap, _∙_}
 use Prim.Native.Nat.{ℕ}
 use Rattle.words.specs.Numbers.{word}
-use Rattle.blocks.proofs.ShapeLaws.{block-inside}
+use Rattle.blocks.proofs.ShapeLaws.{head-inside}
 use Rattle.chain.specs.Links.{nextOf}
 use Rattle.chain.proofs.links.next_of.Statement.{statement}
 use Rattle.chain.proofs.links.next_of.Tie as tie
@@ -16,7 +16,7 @@ word-requires : tie.Need-word-requires
 word-requires c κs =
     let v = c .before .before .args in
     let p = c .before .before .pre in
-    omega (arith, c .block-at .ensures, block-inside (v .file .now) (v .shape) (p .2) (v .block) (p .0) (p .1), p .2 .size-most)
+    omega (arith, c .block-at .ensures, head-inside (v .file .now) (v .shape) (p .2) (v .block) (p .0) (p .1))
 
 cast-result : tie.Need-cast-result
 cast-result c = search needs

@@ -6,7 +6,7 @@ use Prim.Native.Nat.{ℕ, _+_, _≤_}
 use lib.ListN.{length}
 use Rattle.words.specs.Numbers.{word}
 use Rattle.blocks.specs.Shape.{blockAt}
-use Rattle.blocks.proofs.ShapeLaws.{block-inside}
+use Rattle.blocks.proofs.ShapeLaws.{head-inside}
 use Rattle.chain.specs.Links.{previousOf}
 use Rattle.chain.proofs.links.previous_of.Statement.{statement}
 use Rattle.chain.proofs.links.previous_of.Tie as tie
@@ -19,7 +19,7 @@ inside : (c : tie.After-block-at) → let v = c .before .before .args in blockAt
 inside c =
     let v = c .before .before .args in
     let p = c .before .before .pre in
-    omega (arith, block-inside (v .file .now) (v .shape) (p .2) (v .block) (p .0) (p .1), p .2 .size-most)
+    head-inside (v .file .now) (v .shape) (p .2) (v .block) (p .0) (p .1)
 
 add-word : tie.Need-add-word
 add-word c = omega (arith, c .block-at .ensures, inside c)
