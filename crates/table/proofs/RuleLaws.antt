@@ -121,6 +121,7 @@ module _ (t : List ℕ) (h : Header) (a : Accepted t h) (room : ℕ) (e : blocks
   unfolding countsRight
   accepted-blocks =
       let c = both {a = countsGood t (shapeOf h) (usedOf t h)} {b = eqb (total t (shapeOf h) (usedOf t h)) (h .records)} (tests .counts) in
+      let s = eqb-true (total t (shapeOf h) (usedOf t h)) (h .records) (c .1) in
       record {
         header = a;
         chain = chained .used-chain;
@@ -128,7 +129,8 @@ module _ (t : List ℕ) (h : Header) (a : Accepted t h) (room : ℕ) (e : blocks
         once = rules-once (h .blocks) (linksOf t h) (usedOf t h) (freeOf t h) chained;
         few-blocks = omega (arith, rules-length (h .blocks) (linksOf t h) (usedOf t h) (freeOf t h) chained);
         counts = counts-give t (shapeOf h) (usedOf t h) (c .0);
-        records = records-total t (shapeOf h) (usedOf t h) ∙ eqb-true (total t (shapeOf h) (usedOf t h)) (h .records) (c .1);
+        sum = s;
+        records = records-total t (shapeOf h) (usedOf t h) ∙ s;
         ascending = λ k. ascending-pairs (keysOf t h) (keys-give t h (tests .keys) k);
       }
 

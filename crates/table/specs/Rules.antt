@@ -57,8 +57,9 @@ pub record AcceptedTable (t : List ℕ) (h : Header) : Type 0 where
   pub inside : Inside (h .blocks) (usedOf t h)
   pub once : (b : ℕ) → times b (usedOf t h) ≤ 1
   pub few-blocks : length (usedOf t h) ≤ h .blocks
-  -- their counts are good, and every record of the header's count is in the list of records
+  -- their counts are good and add up to the header's, which is the length of the list of records
   pub counts : (i : ℕ) → i < length (usedOf t h) → countIn t (shapeOf h) (getD (usedOf t h) i 0) ≡ Bad → ⊥
+  pub sum : total t (shapeOf h) (usedOf t h) ≡ h .records
   pub records : length (recordsOf t h) ≡ h .records
   -- with key fields, of any two records the earlier has the lesser key
   pub ascending : 1 ≤ h .keys → (i j : ℕ) → i < j → j < length (keysOf t h) → order (getD (keysOf t h) i []) (getD (keysOf t h) j []) ≡ Less

@@ -1,4 +1,5 @@
-// Both chains: the used one walked, then the free one, until every block has a mark.
+// Both chains: the used one walked, then the free one; then every block must have a mark.
+// The module is private: its function is a helper of the check, which meets what it requires.
 ghost use Rattle.table.specs.Steps.{ChainsMarked, Markable};
 use crate::tally::Tally;
 use crate::walk::walk_used;
@@ -10,7 +11,7 @@ use header::Header;
 pub struct Chains {
     // They keep the chain rules.
     pub right: bool,
-    // What the used blocks come to; it counts for something where the chains are right.
+    // What the used blocks come to, where the chains are right.
     pub tally: Tally,
 }
 

@@ -1,4 +1,5 @@
 // The keys of records passed one after another: whether each is less than the next.
+// The module is private: its functions are helpers of the tally, which meets what they require.
 ghost use mathlib.Core.Path.{_≡_};
 ghost use Prim.Native.Nat.{_+_, _-_, _≤_};
 ghost use lib.ListN.{length};

@@ -1,4 +1,5 @@
 // What the blocks passed come to: their counts added up, and the keys of their records.
+// The module is private: its functions are helpers of the walk, which meets what they require.
 ghost use mathlib.Core.Path.{_≡_};
 ghost use Prim.Native.Nat.{_+_, _≤_};
 ghost use Rattle.blocks.specs.Shape.{Sound};
@@ -34,10 +35,8 @@ impl Tally {
     pub fn answer(self, records: u32) -> u8
         ensures { λ r. ⌜ r ≡ tallyAnswer self records ⌝ }
     {
-        if !self.counted {
-            return refusal::WRONG_COUNT;
-        }
-        if self.records != records {
+        let right = self.counted & (self.records == records);
+        if !right {
             return refusal::WRONG_COUNT;
         }
         if header::MOST_RECORDS < self.records {

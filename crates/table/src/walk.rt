@@ -1,4 +1,5 @@
 // The one walk along the used chain: links and marks judged, counts and keys tallied on the way.
+// The module is private: its functions are helpers of the check, which meets what they require.
 ghost use mathlib.Core.Path.{_≡_};
 ghost use mathlib.Core.Bool.{false};
 ghost use Rattle.table.specs.Steps.{UsedWalked, Walkable};

@@ -1,0 +1,51 @@
+-- `run` is safe and ends. Assumes nothing.
+use Prim.Native.Nat.{_-_, _≤_}
+use lib.ListN.{length}
+use borrow.Author.Needs.{needs}
+use Rattle.table_test.proofs.cases.run.Statement.{statement}
+use Rattle.table_test.proofs.cases.run.Tie as tie
+
+abbrev Inv-loop : tie.InvT-loop
+Inv-loop lines t₀ first₀ line₀ i₀ t first line i = i ≤ length lines
+
+abbrev μ-loop : tie.MeasureT-loop
+μ-loop lines t₀ first₀ line₀ i₀ t first line i = length lines - i
+
+fresh-requires : tie.Need-fresh-requires Inv-loop μ-loop
+fresh-requires c κs = search needs
+
+loop-holds : tie.Need-loop-holds Inv-loop μ-loop
+loop-holds c = search needs
+
+shared-slice-read-feed : tie.Need-shared-slice-read-feed Inv-loop μ-loop
+shared-slice-read-feed c = search needs
+
+feed-requires : tie.Need-feed-requires Inv-loop μ-loop
+feed-requires c κs = search needs
+
+add-i : tie.Need-add-i Inv-loop μ-loop
+add-i c = search needs
+
+loop-less : tie.Need-loop-less Inv-loop μ-loop
+loop-less c = search needs
+
+loop-again : tie.Need-loop-again Inv-loop μ-loop
+loop-again c = search needs
+
+returns : tie.Need-returns Inv-loop μ-loop
+returns c = search needs
+
+pub run-spec : {M : Type 1} → statement M
+run-spec =
+    tie.close
+    (tie.spec
+    Inv-loop
+    μ-loop
+    fresh-requires
+    loop-holds
+    shared-slice-read-feed
+    feed-requires
+    add-i
+    loop-less
+    loop-again
+    returns)
