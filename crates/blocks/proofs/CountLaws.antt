@@ -4,10 +4,11 @@ use mathlib.Core.Path.{_≡_, refl}
 use mathlib.Core.Bool.{Bool, true, false, cond, _&&_}
 use Rattle.words.proofs.Conjunctions.{both}
 use mathlib.Core.List.{List}
-use native.Mathlib.Nat.{mul-le-mul-right, mod-add-div', add-mul}
+use native.Mathlib.Nat.{mul-le-mul-left, mul-le-mul-right, mod-add-div', add-mul}
 use native.Mathlib.Omega.{arith}
 use lib.Dec.{eqb, leb}
 use lib.IntN.{ℤ, pos, negsuc}
+use lib.ListN.{length}
 use borrow.Author.Tests.{eq-eqb, ne-eqb, le-leb, lt-leb, eqb-true, leb-true}
 use Rattle.words.proofs.SignedLaws.{signed-below, signed-from}
 use Rattle.words.specs.Numbers.{word}
@@ -15,6 +16,7 @@ use Rattle.words.specs.Signed.{signed}
 use Rattle.blocks.specs.Shape.{blockAt, recordAt, Sound}
 use Rattle.blocks.specs.Counts.{countOf, countIn}
 use Rattle.blocks.specs.declared.Shape.{Shape}
+use Rattle.blocks.proofs.ShapeLaws.{block-inside}
 use Rattle.blocks.specs.declared.count.Count.the-variants.{Records, Bad}
 
 -- ---- one law for each answer, of a word read as signed
@@ -64,8 +66,17 @@ count-most block size (pos m) n h e = go (eqb (m % size) 0 && leb (m + size) (bl
 
 -- ---- a record that is counted is inside its block
 module _ (t : List ℕ) (g : Shape) (s : Sound t g) (b n : ℕ) (e : countIn t g b ≡ Records n) where
-  pub record-inside : (i : ℕ) → i < n → recordAt g b i + g .size ≤ blockAt g b + g .block
+  records-fit : 6 + n * g .size ≤ g .block
   unfolding countIn
-  record-inside i l =
-      let m : 6 + n * g .size ≤ g .block = count-most (g .block) (g .size) (signed 32768 (word t (blockAt g b + 4))) n (omega (arith, s .size-most)) e in
-      omega (arith, m, mul-le-mul-right (g .size) l)
+  records-fit = count-most (g .block) (g .size) (signed 32768 (word t (blockAt g b + 4))) n (omega (arith, s .size-most)) e
+
+  pub record-inside : (i : ℕ) → i < n → recordAt g b i + g .size ≤ blockAt g b + g .block
+  record-inside i l = omega (arith, records-fit, mul-le-mul-right (g .size) l)
+
+  -- and so inside the file
+  pub record-in-file : 1 ≤ b → b ≤ g .blocks → (i : ℕ) → i < n → recordAt g b i + g .size ≤ length t
+  record-in-file low high i l = omega (arith, record-inside i l, block-inside t g s b low high)
+
+  -- a block counts no more records than it has bytes
+  pub count-few : n ≤ g .block
+  count-few = omega (arith, records-fit, mul-le-mul-left n (s .size-least))

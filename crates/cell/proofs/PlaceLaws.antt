@@ -27,8 +27,8 @@ use Rattle.blocks.specs.Shape.{shapeOf, hasBlock, recordAt}
 use Rattle.blocks.specs.Counts.{countIn}
 use Rattle.blocks.specs.declared.count.Count.{Count}
 use Rattle.blocks.specs.declared.count.Count.the-variants.{Records, Bad}
-use Rattle.blocks.proofs.ShapeLaws.{sound, shape-size, has-block, block-inside}
-use Rattle.blocks.proofs.CountLaws.{record-inside}
+use Rattle.blocks.proofs.ShapeLaws.{sound, shape-size, has-block}
+use Rattle.blocks.proofs.CountLaws.{record-in-file}
 use Rattle.cell.proofs.ReadingLaws.{no-cell}
 use Rattle.cell.specs.Values.{contentOf, answerOf, textOf, valuePart, partOf}
 use Rattle.cell.specs.Reading.{falseByte, trueByte, signedAt, doubleAt, textWith, dateCell, numberCell, logicalCell, isDate, valueAt, cellAt, placeCell, fieldCell, blockCell, cellOf, readOf, Stands}
@@ -45,7 +45,7 @@ cell-inside t h a b p f here kind width offset e n k l =
     let g = shapeOf h in
     let s = sound t h a in
     let q = has-block g b here in
-    omega (arith, record-inside t g s b n k p l, block-inside t g s b (q .0) (q .1), field-bounds t h a f kind width offset e .inside, shape-size h)
+    omega (arith, record-in-file t g s b n k (q .0) (q .1) p l, field-bounds t h a f kind width offset e .inside, shape-size h)
 
 module _ (t : List ℕ) (b p f : ℕ) (v : Value) where
   module _ (a : Accepted t (headerOf t)) (here : hasBlock (shapeOf (headerOf t)) b ≡ true) where

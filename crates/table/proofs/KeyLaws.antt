@@ -15,8 +15,7 @@ use Rattle.blocks.specs.Shape.{recordAt, Sound}
 use Rattle.blocks.specs.Counts.{countIn}
 use Rattle.blocks.specs.declared.Shape.{Shape}
 use Rattle.blocks.specs.declared.count.Count.the-variants.{Records}
-use Rattle.blocks.proofs.CountLaws.{record-inside}
-use Rattle.blocks.proofs.ShapeLaws.{block-inside}
+use Rattle.blocks.proofs.CountLaws.{record-in-file}
 use Rattle.table.specs.Records.{Position, placesFrom}
 use Rattle.table.specs.Keys.{keyAt, ascendFrom, ascend}
 use Rattle.table.specs.Steps.{nextKey, keysAfter, runAfter, isOrdered, KeyInside, last, unordered, RunInside}
@@ -118,13 +117,9 @@ module _ (t : List ℕ) (g : Shape) (key : ℕ) where
 
 -- ---- where records and keys stand
 
--- the records of a block that its count tells of are inside the table
-module _ (t : List ℕ) (g : Shape) (s : Sound t g) (b : ℕ) (low : 1 ≤ b) (high : b ≤ g .blocks) (n : ℕ) (e : countIn t g b ≡ Records n) where
-  pub counted-inside : (i : ℕ) → i < n → recordAt g b i + g .size ≤ length t
-  counted-inside i l = omega (arith, record-inside t g s b n e i l, block-inside t g s b low high)
-
-  pub run-inside : (key : ℕ) → key ≤ g .size → n < 65536 → RunInside t g key b n
-  run-inside key short few = record { low = low; high = high; few = few; short = short; inside = counted-inside }
+-- the records that a block counts are inside the table
+pub run-inside : (t : List ℕ) (g : Shape) → Sound t g → (b : ℕ) → 1 ≤ b → b ≤ g .blocks → (n : ℕ) → countIn t g b ≡ Records n → (key : ℕ) → key ≤ g .size → n < 65536 → RunInside t g key b n
+run-inside t g s b low high n e key short few = record { low = low; high = high; few = few; short = short; inside = record-in-file t g s b n e low high }
 
 pub last-inside : (t : List ℕ) (key at : ℕ) → KeyInside t key (Last at) → at + key ≤ length t
 last-inside t key at (last h) = h

@@ -1,31 +1,29 @@
 -- The tally of blocks passed one after another says what the rules say of all of them, by induction over the blocks. Assumes nothing.
-use Prim.Native.Nat.{ℕ, _+_, _*_, _≤_}
+use Prim.Native.Nat.{ℕ, _+_, _≤_}
 use mathlib.Core.Path.{_≡_, refl, sym, ap, _∙_}
 use mathlib.Core.Bool.{Bool, true, false, cond, _&&_, false≢true}
-use mathlib.Core.List.{List, [], _∷_, map, foldl, foldl-append}
-use native.Mathlib.Nat.{add-zero, zero-add, add-assoc, mul-le-mul-left}
+use mathlib.Core.List.{List, [], _∷_, foldl, foldl-append}
+use native.Mathlib.Nat.{add-zero, zero-add, add-assoc}
 use native.Mathlib.Omega.{arith}
 use lib.Dec.{eqb, leb}
 use borrow.Author.Tests.{leb-true, leb-false}
-use Rattle.words.specs.Numbers.{word}
-use Rattle.words.specs.Signed.{signed}
 use Rattle.words.proofs.Conjunctions.{both}
 use Rattle.header.specs.Header.{mostRecords}
 use Rattle.header.specs.Refusals.{wrongCount, keyOrder, tooManyRecords, firstBroken}
-use Rattle.blocks.specs.Shape.{blockAt, recordAt, Sound}
+use Rattle.blocks.specs.Shape.{recordAt, Sound}
 use Rattle.blocks.specs.Counts.{countIn}
 use Rattle.blocks.specs.declared.Shape.{Shape}
 use Rattle.blocks.specs.declared.count.Count.{Count}
 use Rattle.blocks.specs.declared.count.Count.the-variants.{Records, Bad}
-use Rattle.blocks.proofs.CountLaws.{count-most}
+use Rattle.blocks.proofs.CountLaws.{record-in-file, count-few}
 use Rattle.chain.specs.Chain.{every}
 use Rattle.table.specs.Records.{Position, held, placesFrom, recordsIn}
 use Rattle.table.specs.Counts.{isGood, countsGood, total}
-use Rattle.table.specs.Keys.{keyAt, ascend}
+use Rattle.table.specs.Keys.{keysIn, ascend}
 use Rattle.table.specs.Steps.{nextKey, isOrdered, KeyInside, unordered, nothing, uncounted, addCount, addBlock, tallyAnswer}
 use Rattle.table.specs.declared.keys.Keys.{Keys}
 use Rattle.table.specs.declared.tally.Tally.{Tally}
-use Rattle.table.proofs.KeyLaws.{passed, ascendAfter, run-keyless, run-passed, passed-ascend, counted-inside, run-stays}
+use Rattle.table.proofs.KeyLaws.{passed, ascendAfter, run-keyless, run-passed, passed-ascend, run-stays}
 
 -- a good count is one of records
 good-count : (c : Count) → isGood c ≡ true → c ≡ Records (held c)
@@ -105,7 +103,7 @@ module _ (t : List ℕ) (g : Shape) (key : ℕ) where
     tally-records = added .records
 
     -- the keys are judged
-    pub tally-keys : 1 ≤ key → isOrdered (foldl (addBlock t g key) s bs .keys) ≡ ascendAfter t key (s .keys) (map (keyAt t g key) (recordsIn t g bs))
+    pub tally-keys : 1 ≤ key → isOrdered (foldl (addBlock t g key) s bs .keys) ≡ ascendAfter t key (s .keys) (keysIn t g key bs)
     tally-keys h = ap isOrdered (added .keyed (λ z. omega arith)) ∙ passed-ascend t g key (recordsIn t g bs) (s .keys)
 
     -- of key length 0 no key is looked at
@@ -120,11 +118,11 @@ module _ (t : List ℕ) (g : Shape) (key : ℕ) where
     whole = foldl (addBlock t g key) nothing used
 
     -- where every count is good the tally's keys are judged as the rule says
-    keys-judged : whole .counted ≡ true → isOrdered (whole .keys) ≡ cond (leb 1 keys) (ascend (map (keyAt t g key) (recordsIn t g used))) true
+    keys-judged : whole .counted ≡ true → isOrdered (whole .keys) ≡ cond (leb 1 keys) (ascend (keysIn t g key used)) true
     unfolding nothing ascendAfter isOrdered
     keys-judged e = go (leb 1 keys) refl
       where
-        go : (c : Bool) → leb 1 keys ≡ c → isOrdered (whole .keys) ≡ cond c (ascend (map (keyAt t g key) (recordsIn t g used))) true
+        go : (c : Bool) → leb 1 keys ≡ c → isOrdered (whole .keys) ≡ cond c (ascend (keysIn t g key used)) true
         go true h = tally-keys nothing used e (keyed (leb-true 1 keys h))
         go false h = ap isOrdered (tally-keyless nothing used e (keyless (omega (arith, leb-false 1 keys h))))
 
@@ -133,13 +131,13 @@ module _ (t : List ℕ) (g : Shape) (key : ℕ) where
     answer good records =
         firstBroken (good && eqb (total t g used) records) wrongCount
         (firstBroken (leb (total t g used) mostRecords) tooManyRecords
-        (firstBroken (cond (leb 1 keys) (ascend (map (keyAt t g key) (recordsIn t g used))) true) keyOrder 0))
+        (firstBroken (cond (leb 1 keys) (ascend (keysIn t g key used)) true) keyOrder 0))
 
     -- the tally of all used blocks answers what the rules do
     pub tally-answer : (records : ℕ) → tallyAnswer (foldl (addBlock t g key) nothing used) records
         ≡ firstBroken (countsGood t g used && eqb (total t g used) records) wrongCount
         (firstBroken (leb (total t g used) mostRecords) tooManyRecords
-        (firstBroken (cond (leb 1 keys) (ascend (map (keyAt t g key) (recordsIn t g used))) true) keyOrder 0))
+        (firstBroken (cond (leb 1 keys) (ascend (keysIn t g key used)) true) keyOrder 0))
     unfolding nothing tallyAnswer
     tally-answer records = go (countsGood t g used) refl
       where
@@ -149,19 +147,13 @@ module _ (t : List ℕ) (g : Shape) (key : ℕ) where
 
   -- ---- what stays so from block to block
 
-  count-few : (b n : ℕ) → Sound t g → countIn t g b ≡ Records n → n ≤ g .block
-  unfolding countIn
-  count-few b n w e =
-      let m : 6 + n * g .size ≤ g .block = count-most (g .block) (g .size) (signed 32768 (word t (blockAt g b + 4))) n (omega (arith, w .size-most)) e in
-      omega (arith, m, mul-le-mul-left n (w .size-least))
-
   -- a block adds at most 65,535 records
   pub records-more : (s : Tally) (b : ℕ) → Sound t g → g .block ≤ 65535 → addBlock t g key s b .records ≤ s .records + 65535
   unfolding addBlock addCount uncounted
   records-more s b w h = go (s .counted) (countIn t g b) refl
     where
       go : (c : Bool) (n : Count) → countIn t g b ≡ n → cond c (addCount t g key s b n) s .records ≤ s .records + 65535
-      go true (Records n) e = omega (arith, count-few b n w e)
+      go true (Records n) e = omega (arith, count-few t g w b n e)
       go true Bad e = omega arith
       go false n e = omega arith
 
@@ -171,6 +163,6 @@ module _ (t : List ℕ) (g : Shape) (key : ℕ) where
   key-stays s b w low high short k = go (s .counted) (countIn t g b) refl
     where
       go : (c : Bool) (n : Count) → countIn t g b ≡ n → KeyInside t key (cond c (addCount t g key s b n) s .keys)
-      go true (Records n) e = run-stays t g key b n (s .keys) (λ i l. omega (arith, counted-inside t g w b low high n e i l)) k
+      go true (Records n) e = run-stays t g key b n (s .keys) (λ i l. omega (arith, record-in-file t g w b n e low high i l)) k
       go true Bad e = unordered
       go false n e = k
