@@ -1,5 +1,5 @@
 pub mod ListLaws
+pub mod FollowLaws
 pub mod MarkLaws
-pub mod RuleLaws
 pub mod SumLaws
-pub mod WalkLaws
+pub mod RuleLaws

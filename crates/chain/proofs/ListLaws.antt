@@ -2,11 +2,11 @@
 use Prim.Native.Nat.{ℕ, zero, suc, _+_, _<_, suc-le-suc}
 use mathlib.Core.Path.{_≡_, refl, _∙_}
 use mathlib.Core.Bool.{Bool, true}
-use mathlib.Core.List.{List, [], _∷_, _++_, append-nil}
+use mathlib.Core.List.{List, [], _∷_, _++_}
 use mathlib.Core.Logic.{⊎-elim}
 use native.Mathlib.Omega.{arith}
 use native.Mathlib.Nat.{not-suc-le-zero, le-of-suc-le-suc, eq-or-lt-of-le}
-use lib.ListN.{length, getD, drop, replicate, length-append, drop-of-length-le, List·getD-append}
+use lib.ListN.{length, getD, length-append, List·getD-append}
 use lib.Seq.{getD-at}
 use Rattle.words.proofs.Conjunctions.{both, join}
 use Rattle.chain.specs.Chain.{every}
@@ -27,10 +27,6 @@ module _ (test : ℕ → Bool) where
   every-takes (b ∷ bs) k = join (k 0 (omega arith)) (every-takes bs (λ i h. k (suc i) (suc-le-suc h)))
 
 -- ---- the marks of n blocks
-
--- marks taken away, where there are no more than n
-pub cleared-all : (n : ℕ) (m : List ℕ) → length m ≡ n → replicate n 0 ++ drop n m ≡ replicate n 0
-cleared-all n m e = rw (drop-of-length-le m {i = n} (omega arith)) (append-nil (replicate n 0))
 
 pub marks-length : (n : ℕ) (used : List ℕ) → length (marksOf n used) ≡ n
 unfolding marksOf

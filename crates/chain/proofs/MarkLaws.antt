@@ -1,4 +1,4 @@
--- Two chains walked with marks keep the chain rules exactly where both walks go through and every block has a mark then. A mark
+-- Two chains followed with marks keep the chain rules exactly where each block may be taken and every block has a mark then. A mark
 -- counts as 1 where it is set; with how often a chain has a block, each rule is a sum. Assumes nothing.
 use Prim.Native.Nat.{ℕ, zero, suc, _+_, _-_, _≤_, _<_}
 use mathlib.Core.Path.{_≡_, refl, sym, _∙_}
@@ -11,15 +11,16 @@ use lib.ListN.{length, getD, set, replicate, length-set, length-replicate, getD-
 use lib.Seq.{getD-set-same, getD-set-other, ext-getD}
 use lib.Dec.{eqb, eqb·suc-zero}
 use borrow.Author.Tests.{eqb-true, eqb-false, eq-eqb, ne-eqb, not-true}
+use Rattle.words.proofs.Cases.{cond-same}
 use Rattle.words.proofs.Conjunctions.{both, join}
 use Rattle.words.proofs.EachLaws.{each-gives, each-takes}
 use Rattle.blocks.specs.Shape.{inFile}
 use Rattle.blocks.proofs.ShapeLaws.{in-file, file-has}
 use Rattle.chain.specs.Chain.{Links, every, times, everyBlockOnce, linked, names, lastOf, usedChain, freeChain, chainsRight}
 use Rattle.chain.specs.Marks.{marksOf}
-use Rattle.chain.specs.Steps.{isFresh, takes, walks, marked, hasMark, allMarked, anyTwo}
+use Rattle.chain.specs.Steps.{isUnmarked, takes, takesAll, marked, hasMark, allMarked, anyTwo}
 use Rattle.chain.proofs.ListLaws.{marks-length, mark-at}
-use Rattle.chain.proofs.WalkLaws.{fresh}
+use Rattle.chain.proofs.FollowLaws.{unmarked-gives}
 
 pub bool-same : (a b : Bool) → (a ≡ true → b ≡ true) → (b ≡ true → a ≡ true) → a ≡ b
 bool-same true b f g = sym (f refl)
@@ -54,27 +55,23 @@ marked-at mark (b ∷ bs) m n e i h =
     let q = both {a = inFile n b} {b = every (inFile n) bs} e in
     marked-at mark bs (set m (b - 1) mark) n (q .1) i (rw length-set h) ∙ go (in-file n b (q .0) .0) (eqb b (suc i)) refl
   where
-    same : (t : Bool) → cond t mark mark ≡ mark
-    same true = refl
-    same false = refl
-
     go : 1 ≤ b → (t : Bool) → eqb b (suc i) ≡ t
         → cond (eqb (times (suc i) bs) 0) (getD (set m (b - 1) mark) i 0) mark ≡ cond (eqb (cond (eqb b (suc i)) 1 0 + times (suc i) bs) 0) (getD m i 0) mark
-    go low true r = rw (r, set-same m mark b i low h (eqb-true b (suc i) r), one-add, eqb·suc-zero) (same (eqb (times (suc i) bs) 0))
+    go low true r = rw (r, set-same m mark b i low h (eqb-true b (suc i) r), one-add, eqb·suc-zero) (cond-same (eqb (times (suc i) bs) 0) mark)
     go low false r = rw (r, set-other m mark b i low h (eqb-false b (suc i) r), zero-add)
 
 -- what a mark adds, the chain's own count gave before it
 shift : (m : List ℕ) (mark b i : ℕ) (bs : List ℕ) → 1 ≤ b → 0 < mark → i < length m → getD m (b - 1) 0 ≡ 0
     → seen (getD (set m (b - 1) mark) i 0) + times (suc i) bs ≡ seen (getD m i 0) + times (suc i) (b ∷ bs)
 unfolding times
-shift m mark b i bs low pos h clean = go (eqb b (suc i)) refl
+shift m mark b i bs low pos h no-mark = go (eqb b (suc i)) refl
   where
     go : (t : Bool) → eqb b (suc i) ≡ t
         → seen (getD (set m (b - 1) mark) i 0) + times (suc i) bs ≡ seen (getD m i 0) + (cond (eqb b (suc i)) 1 0 + times (suc i) bs)
     go true r =
         let e : b ≡ suc i = eqb-true b (suc i) r in
         let q : b - 1 ≡ i = omega arith in
-        let z : getD m i 0 ≡ 0 = rw q at clean in
+        let z : getD m i 0 ≡ 0 = rw q at no-mark in
         rw (r, set-same m mark b i low h e, z, ne-eqb mark 0 (omega arith)) (omega arith)
     go false r = rw (r, set-other m mark b i low h (eqb-false b (suc i) r)) (omega arith)
 
@@ -95,29 +92,29 @@ seen-none (suc x) h = absurd (not-suc-le-zero (rw eqb·suc-zero at h))
 abbrev Apart : List ℕ → List ℕ → Type 0
 Apart m bs = (i : ℕ) → i < length m → seen (getD m i 0) + times (suc i) bs ≤ 1
 
--- what a walk that goes through says of its chain
+-- what it says of a chain that each of its blocks may be taken
 record Through (test : ℕ → ℕ → Bool) (before : ℕ) (bs m : List ℕ) : Type 0 where
   within : every (inFile (length m)) bs ≡ true
   named : linked test before bs ≡ true
   apart : Apart m bs
 
 module _ (test : ℕ → ℕ → Bool) (mark : ℕ) (pos : 0 < mark) where
-  through : (before : ℕ) (bs m : List ℕ) → walks test mark before bs m ≡ true → Through test before bs m
-  unfolding walks every linked times
+  through : (before : ℕ) (bs m : List ℕ) → takesAll test mark before bs m ≡ true → Through test before bs m
+  unfolding takesAll every linked times
   through before [] m e = record { within = refl; named = refl; apart = λ i h. omega (arith, seen-most (getD m i 0)) }
   through before (b ∷ bs) m e =
-      let q = both {a = takes test m before b} {b = walks test mark b bs (set m (b - 1) mark)} e in
-      let p = both {a = isFresh m b} {b = test before b} (q .0) in
-      let f = fresh m b (p .0) in
+      let q = both {a = takes test m before b} {b = takesAll test mark b bs (set m (b - 1) mark)} e in
+      let p = both {a = isUnmarked m b} {b = test before b} (q .0) in
+      let f = unmarked-gives m b (p .0) in
       let r = through b bs (set m (b - 1) mark) (q .1) in
       record {
         within = join (file-has (length m) b (f .low) (f .high)) (rw length-set at (r .within));
         named = join (p .1) (r .named);
-        apart = λ i h. rw (← (shift m mark b i bs (f .low) pos h (f .clean))) (r .apart i (rw length-set h));
+        apart = λ i h. rw (← (shift m mark b i bs (f .low) pos h (f .no-mark))) (r .apart i (rw length-set h));
       }
 
-  goes : (before : ℕ) (bs m : List ℕ) → Through test before bs m → walks test mark before bs m ≡ true
-  unfolding walks every linked times isFresh
+  goes : (before : ℕ) (bs m : List ℕ) → Through test before bs m → takesAll test mark before bs m ≡ true
+  unfolding takesAll every linked times isUnmarked
   goes before [] m t = refl
   goes before (b ∷ bs) m t =
       let q = both {a = inFile (length m) b} {b = every (inFile (length m)) bs} (t .within) in
@@ -126,14 +123,14 @@ module _ (test : ℕ → ℕ → Bool) (mark : ℕ) (pos : 0 < mark) where
       let e : suc (b - 1) ≡ b = omega arith in
       let here = t .apart (b - 1) (omega arith) in
       let one : _≡_ {A = ℕ} (cond (eqb b (suc (b - 1))) 1 0) 1 = rw (e, eq-eqb b b refl) in
-      let clean : getD m (b - 1) 0 ≡ 0 = seen-none (getD m (b - 1) 0) (omega arith) in
+      let no-mark : getD m (b - 1) 0 ≡ 0 = seen-none (getD m (b - 1) 0) (omega arith) in
       join
-      (join (join (q .0) (eq-eqb (getD m (b - 1) 0) 0 clean)) (l .0))
+      (join (join (q .0) (eq-eqb (getD m (b - 1) 0) 0 no-mark)) (l .0))
       (goes b bs (set m (b - 1) mark)
       (record {
         within = rw length-set (q .1);
         named = l .1;
-        apart = λ i h. let k : i < length m = rw length-set at h in rw (shift m mark b i bs (r .0) pos k clean) (t .apart i k);
+        apart = λ i h. let k : i < length m = rw length-set at h in rw (shift m mark b i bs (r .0) pos k no-mark) (t .apart i k);
       }))
 
 any-linked : (before : ℕ) (bs : List ℕ) → linked anyTwo before bs ≡ true
@@ -227,15 +224,15 @@ module _ (n : ℕ) (l : Links) where
       → getD all-marks i 0 ≡ cond (eqb (times (suc i) free) 0) (cond (eqb (times (suc i) used) 0) 0 1) 2
   both-mark e f i h = rw (marked-at 2 free first-marks n f i (rw first-length h), first-mark e i h)
 
-  -- the tests that the walks make
-  abbrev used-walks : Bool
-  used-walks = walks (names (l .previous)) 1 0 used (replicate n 0)
+  -- the tests that following both chains makes
+  abbrev used-taken : Bool
+  used-taken = takesAll (names (l .previous)) 1 0 used (replicate n 0)
 
-  abbrev free-walks : Bool
-  free-walks = walks anyTwo 2 0 free first-marks
+  abbrev free-taken : Bool
+  free-taken = takesAll anyTwo 2 0 free first-marks
 
   abbrev tests : Bool
-  tests = used-walks && (eqb (lastOf 0 used) (l .last) && (free-walks && allMarked all-marks))
+  tests = used-taken && (eqb (lastOf 0 used) (l .last) && (free-taken && allMarked all-marks))
 
   right-tests : Right → tests ≡ true
   unfolding allMarked
@@ -260,9 +257,9 @@ module _ (n : ℕ) (l : Links) where
   tests-right : tests ≡ true → Right
   unfolding allMarked
   tests-right e =
-      let q₁ = both {a = used-walks} {b = eqb (lastOf 0 used) (l .last) && (free-walks && allMarked all-marks)} e in
-      let q₂ = both {a = eqb (lastOf 0 used) (l .last)} {b = free-walks && allMarked all-marks} (q₁ .1) in
-      let q₃ = both {a = free-walks} {b = allMarked all-marks} (q₂ .1) in
+      let q₁ = both {a = used-taken} {b = eqb (lastOf 0 used) (l .last) && (free-taken && allMarked all-marks)} e in
+      let q₂ = both {a = eqb (lastOf 0 used) (l .last)} {b = free-taken && allMarked all-marks} (q₁ .1) in
+      let q₃ = both {a = free-taken} {b = allMarked all-marks} (q₂ .1) in
       let t₁ = through (names (l .previous)) 1 (omega arith) 0 used (replicate n 0) (q₁ .0) in
       let t₂ = through anyTwo 2 (omega arith) 0 free first-marks (q₃ .0) in
       let ui : every (inFile n) used ≡ true = rw length-replicate at (t₁ .within) in
@@ -280,7 +277,7 @@ module _ (n : ℕ) (l : Links) where
         ends = q₂ .0;
       }
 
-  -- the chain rules are what the two walks test
+  -- they are the chain rules
   pub rule-is : chainsRight n l ≡ tests
   rule-is = bool-same (chainsRight n l) tests (λ e. right-tests (right-gives e)) (λ e. right-takes (tests-right e))
 

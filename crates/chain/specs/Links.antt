@@ -7,12 +7,16 @@ use Rattle.blocks.specs.Shape.{shapeOf, blockAt}
 use Rattle.blocks.specs.declared.Shape.{Shape}
 use Rattle.chain.specs.Chain.{Links, usedChain, freeChain}
 
+-- where the second word of a block's head stands
+abbrev pub previousWord : ℕ
+previousWord = 2
+
 -- a block's head: its first word is the next block, its second word the previous one
 unfoldable pub nextOf : List ℕ → Shape → ℕ → ℕ
 nextOf t g b = word t (blockAt g b)
 
 unfoldable pub previousOf : List ℕ → Shape → ℕ → ℕ
-previousOf t g b = word t (blockAt g b + 2)
+previousOf t g b = word t (blockAt g b + previousWord)
 
 -- the links of a table, by its header
 abbrev pub linksOf : List ℕ → Header → Links

@@ -1,9 +1,7 @@
-// The chains of a table: a block's links, the marks that note which chain has a block, and the walk along
-// the free chain. The functions are helpers of the crates above, which have judged the file's sizes.
-mod free;
+// The chains of a table: a block's links, and the marks that note which chain has a block.
+// The functions are helpers of the crates above, which have judged the file's sizes and the block's number.
 mod links;
 pub mod marks;
 
-pub use free::walk_free;
 pub use links::next_of;
 pub use links::previous_of;

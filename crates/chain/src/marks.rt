@@ -4,7 +4,7 @@ ghost use mathlib.Core.List.{_++_};
 ghost use Prim.Native.Nat.{_≤_};
 ghost use lib.ListN.{drop, length, replicate};
 ghost use Rattle.chain.specs.Marks.{unmarked};
-ghost use Rattle.chain.specs.Steps.{allMarked, isFresh};
+ghost use Rattle.chain.specs.Steps.{allMarked, isUnmarked};
 
 // No chain has the block so far.
 pub const UNMARKED: u8 = 0;
@@ -40,8 +40,8 @@ pub fn all_marked(marks: &[u8]) -> bool
 }
 
 // Whether a number is that of a block without a mark; there are as many blocks as marks.
-pub fn is_fresh(marks: &[u8], block: usize) -> bool
-    ensures { λ r. ⌜ r ≡ isFresh (now (marks .entry)) block ⌝ }
+pub fn is_unmarked(marks: &[u8], block: usize) -> bool
+    ensures { λ r. ⌜ r ≡ isUnmarked (now (marks .entry)) block ⌝ }
 {
     if block < 1 {
         return false;

@@ -6,13 +6,11 @@ use mathlib.Core.List.{List}
 use native.Mathlib.Nat.{not-suc-le-zero}
 use native.Mathlib.Omega.{arith}
 use lib.Dec.{leb}
-use lib.ListN.{length}
 use borrow.Author.Tests.{le-leb, lt-leb, leb-true, leb-false}
 use Rattle.words.specs.Numbers.{byte}
-use Rattle.header.specs.Refusals.{firstBroken}
-use Rattle.header.specs.Stored.{storedOf, encryptionAt, areaAt, namesAt}
-use Rattle.header.specs.Fields.{widthAt, kindAt, widthSum, fieldsRight}
-use Rattle.header.specs.Header.{longEnough, isTable, knownVersion, unencrypted, limitsKept, lengthRight, headerAnswer, refusedWith, acceptedWith, acceptedOf, answerWith, headerOf, fieldWith, fieldOf}
+use Rattle.header.specs.Stored.{storedOf, areaAt, namesAt}
+use Rattle.header.specs.Fields.{widthAt, kindAt, widthSum}
+use Rattle.header.specs.Header.{headerAnswer, refusedWith, acceptedWith, acceptedOf, answerWith, headerOf, fieldWith, fieldOf}
 use Rattle.header.specs.Rules.{Names, some, HeaderRules, Accepted, FieldBounds}
 use Rattle.header.specs.declared.Header.{Header}
 use Rattle.header.specs.declared.kind.FieldKind.{FieldKind}
@@ -34,24 +32,6 @@ refusal-with (suc n) t = refl
 pub refusal-is : (t : List ℕ) → headerOf t .refusal ≡ headerAnswer t
 unfolding headerOf
 refusal-is t = refusal-with (headerAnswer t) t
-
--- it is one of 0 to 7
-first-most : (kept : Bool) (n rest : ℕ) → n ≤ 7 → rest ≤ 7 → firstBroken kept n rest ≤ 7
-first-most true n rest h k = k
-first-most false n rest h k = h
-
-pub refusal-most : (t : List ℕ) → headerOf t .refusal ≤ 7
-unfolding headerAnswer
-refusal-most t =
-    let s = storedOf t in
-    rw (refusal-is t)
-    (first-most (longEnough t) 1 _ (omega arith)
-    (first-most (isTable s) 2 _ (omega arith)
-    (first-most (knownVersion s) 3 _ (omega arith)
-    (first-most (unencrypted t (encryptionAt (s .version))) 4 _ (omega arith)
-    (first-most (limitsKept s) 5 _ (omega arith)
-    (first-most (lengthRight (length t) s) 6 _ (omega arith)
-    (first-most (fieldsRight t s) 7 0 (omega arith) (omega arith))))))))
 
 -- demand 2 for the header: accepted exactly when it meets rules 1 to 7
 pub accepted-gives : (t : List ℕ) → headerOf t .refusal ≡ 0 → HeaderRules t

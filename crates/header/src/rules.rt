@@ -16,7 +16,7 @@ const KEYED: u8 = 0;
 const UNKEYED: u8 = 2;
 
 const PLAIN_ORDER: u8 = 0;
-// The limits of rules 1, 3 and 5.
+// The limits of rules 1, 3, 5 and 16.
 pub const LEAST_LENGTH: usize = 120;
 
 const LEAST_HEADER: u16 = 120;

@@ -1,17 +1,17 @@
 -- The mark buffer by the answer's number: unchanged with 1 to 7 and 14, cleared with 8, else the marks of both chains. Assumes nothing.
-use Prim.Native.Nat.{ℕ, zero, suc, _≤_}
+use Prim.Native.Nat.{ℕ, zero, suc}
+use mathlib.Core.Path.{_≡_, refl}
 use mathlib.Core.Bool.{Bool, true, false, cond}
 use mathlib.Core.List.{List, _++_}
 use native.Mathlib.Omega.{arith}
 use lib.Dec.{eqb, leb, eqb·suc-zero}
 use lib.ListN.{length, replicate, drop}
 use Rattle.header.specs.Header.{headerOf}
-use Rattle.header.proofs.AcceptedLaws.{refusal-most}
 use Rattle.chain.specs.Links.{usedOf}
 use Rattle.chain.specs.Marks.{marksOf}
 use Rattle.table.specs.Counts.{countsRight, sumFits}
 use Rattle.table.specs.Keys.{keysAscend}
-use Rattle.table.specs.Table.{tableChained, recordsAnswer, blocksAnswer, tableAnswer, blockMarks, bufferAfter, tableMarks}
+use Rattle.table.specs.Table.{tableChained, rulesAnswer, blocksAnswer, tableAnswer, blockMarks, bufferAfter, tableMarks}
 use Rattle.table.specs.Rules.{MarksLeft, by-header, by-buffer, by-chains, by-counts, by-sum, by-keys, accepting}
 
 module _ (t m : List ℕ) where
@@ -31,15 +31,15 @@ module _ (t m : List ℕ) where
   by-room false a marks k = by-buffer
 
   -- 1 to 7 come first
-  by-number : (n a : ℕ) (marks : List ℕ) → n ≤ 7 → MarksLeft t m a marks → MarksLeft t m (cond (eqb n 0) a n) (cond (eqb n 0) marks m)
-  by-number zero a marks h k = k
-  by-number (suc n) a marks h k = rw eqb·suc-zero (by-header {a = suc n} (omega arith) h)
+  by-number : (n a : ℕ) (marks : List ℕ) → headerOf t .refusal ≡ n → MarksLeft t m a marks → MarksLeft t m (cond (eqb n 0) a n) (cond (eqb n 0) marks m)
+  by-number zero a marks e k = k
+  by-number (suc n) a marks e k = rw eqb·suc-zero (by-header e (omega arith))
 
   -- what the check leaves in the mark buffer, by its answer
   pub marks-left : MarksLeft t m (tableAnswer t (length m)) (tableMarks t m)
-  unfolding tableAnswer tableMarks blocksAnswer bufferAfter recordsAnswer blockMarks
+  unfolding tableAnswer tableMarks blocksAnswer bufferAfter rulesAnswer blockMarks
   marks-left =
       let h = headerOf t in
-      by-number (h .refusal) (blocksAnswer t h (length m)) (bufferAfter t h m) (refusal-most t)
-      (by-room (leb (h .blocks) (length m)) (recordsAnswer t h) (blockMarks t h ++ drop (h .blocks) m)
-      (by-rules (tableChained t h) (countsRight t h) (sumFits t h) (keysAscend t h)))
+      by-number (h .refusal) (blocksAnswer t h (length m)) (bufferAfter t h m) refl
+      (by-room (leb (h .blocks) (length m)) (rulesAnswer t h) (blockMarks t h ++ drop (h .blocks) m)
+      (by-rules (tableChained t h) (countsRight t h (usedOf t h)) (sumFits t h (usedOf t h)) (keysAscend t h (usedOf t h))))

@@ -1,19 +1,20 @@
--- What the two walks and the look for a block without a mark say of a table's chains. Assumes nothing.
+-- What following both chains and the look for a block without a mark say of a table's chains. Assumes nothing.
 use Prim.Native.Nat.{ℕ}
-use mathlib.Core.Path.{_≡_, sym, ap, _∙_}
+use mathlib.Core.Path.{_≡_, refl, sym, ap, _∙_}
 use mathlib.Core.Bool.{Bool, true, false, false≢true, _&&_}
 use mathlib.Core.List.{List, foldl}
 use lib.ListN.{length, replicate, length-replicate}
-use borrow.Author.Tests.{eq-eqb, ne-eqb}
+use lib.Dec.{eqb}
+use Rattle.words.proofs.Conjunctions.{both}
 use Rattle.header.specs.declared.Header.{Header}
 use Rattle.blocks.specs.Shape.{shapeOf}
 use Rattle.chain.specs.Chain.{names, lastOf}
 use Rattle.chain.specs.Links.{previousOf, linksOf, usedOf, freeOf}
-use Rattle.chain.specs.Steps.{walks, marked, allMarked, anyTwo, FreeWalked}
+use Rattle.chain.specs.Steps.{takesAll, marked, allMarked, anyTwo}
 use Rattle.chain.proofs.MarkLaws.{rule-is, marks-are, marked-length}
 use Rattle.table.specs.Table.{tableChained}
-use Rattle.table.specs.Steps.{nothing, addBlock, UsedWalked, ChainsMarked}
-use Rattle.table.specs.declared.walk.Walk.{Walk}
+use Rattle.table.specs.Steps.{nothing, addBlock, UsedFollowed, FreeFollowed, ChainsMarked}
+use Rattle.table.specs.declared.used.UsedChain.{UsedChain}
 use Rattle.table.specs.declared.chains.Chains.{Chains}
 
 -- chains that are not right say nothing of marks and tally
@@ -25,48 +26,58 @@ chains-wrong t h r e f m =
       tallied = λ y. absurd (false≢true (sym e ∙ y));
     }
 
--- the walk along the used chain, where no block has a mark
-module _ (t : List ℕ) (h : Header) (m₀ : List ℕ) (clean : m₀ ≡ replicate (h .blocks) 0) (r : Walk) (m₁ : List ℕ)
-    (w : UsedWalked t (shapeOf h) (h .key) (h .first) m₀ r m₁) where
-  abbrev fresh-marks : List ℕ
-  fresh-marks = replicate (h .blocks) 0
+-- the used chain, where no block has a mark
+module _ (t : List ℕ) (h : Header) (m₀ : List ℕ) (unmarked : m₀ ≡ replicate (h .blocks) 0) (r : UsedChain) (m₁ : List ℕ)
+    (w : UsedFollowed t (shapeOf h) (h .key) (h .first) m₀ r m₁) where
+  abbrev no-marks : List ℕ
+  no-marks = replicate (h .blocks) 0
 
-  judged : r .whole ≡ walks (names (previousOf t (shapeOf h))) 1 0 (usedOf t h) fresh-marks
-  judged = rw (clean, length-replicate) at (w .judged)
+  judged : r .whole ≡ takesAll (names (previousOf t (shapeOf h))) 1 0 (usedOf t h) no-marks
+  judged = rw (unmarked, length-replicate) at (w .judged)
 
   ended : r .whole ≡ true → r .last ≡ lastOf 0 (usedOf t h)
-  ended e = rw (clean, length-replicate) at (w .ended e)
+  ended e = rw (unmarked, length-replicate) at (w .ended e)
 
-  stored : r .whole ≡ true → m₁ ≡ marked 1 (usedOf t h) fresh-marks
-  stored e = rw (clean, length-replicate) at (w .stored e)
+  stored : r .whole ≡ true → m₁ ≡ marked 1 (usedOf t h) no-marks
+  stored e = rw (unmarked, length-replicate) at (w .stored e)
 
   tallied : r .whole ≡ true → r .tally ≡ foldl (addBlock t (shapeOf h) (h .key)) nothing (usedOf t h)
-  tallied e = rw (clean, length-replicate) at (w .tallied e)
+  tallied e = rw (unmarked, length-replicate) at (w .tallied e)
 
-  pub used-broken : r .whole ≡ false → tableChained t h ≡ false
-  used-broken e = rule-is (h .blocks) (linksOf t h) ∙ rw (sym judged ∙ e)
+  -- a block that may not be taken, or another last block
+  pub used-wrong : (r .whole && eqb (r .last) (h .last)) ≡ false → tableChained t h ≡ false
+  used-wrong e = go (r .whole) refl
+    where
+      go : (c : Bool) → r .whole ≡ c → tableChained t h ≡ false
+      go false f = rule-is (h .blocks) (linksOf t h) ∙ rw (sym judged ∙ f)
+      go true f =
+          let other : eqb (r .last) (h .last) ≡ false = rw f at e in
+          rule-is (h .blocks) (linksOf t h) ∙ rw (sym judged ∙ f, ← (ended f), other)
 
-  module _ (yes : r .whole ≡ true) where
-    pub last-wrong : (r .last ≡ h .last → ⊥) → tableChained t h ≡ false
-    last-wrong ne = rule-is (h .blocks) (linksOf t h) ∙ rw (sym judged ∙ yes, ne-eqb (lastOf 0 (usedOf t h)) (h .last) (λ e. ne (ended yes ∙ e)))
+  module _ (right : (r .whole && eqb (r .last) (h .last)) ≡ true) where
+    yes : r .whole ≡ true
+    yes = both {a = r .whole} {b = eqb (r .last) (h .last)} right .0
+
+    at-last : eqb (lastOf 0 (usedOf t h)) (h .last) ≡ true
+    at-last = rw (← (ended yes)) (both {a = r .whole} {b = eqb (r .last) (h .last)} right .1)
 
     -- there is still a mark for each block
     pub marks-stay : length m₁ ≡ h .blocks
-    marks-stay = ap length (stored yes) ∙ marked-length 1 (usedOf t h) fresh-marks ∙ length-replicate (h .blocks) 0
+    marks-stay = ap length (stored yes) ∙ marked-length 1 (usedOf t h) no-marks ∙ length-replicate (h .blocks) 0
 
-    -- then the walk along the free chain
-    module _ (at-last : r .last ≡ h .last) (ok : Bool) (m₂ : List ℕ) (v : FreeWalked t (shapeOf h) (h .free) m₁ ok m₂) where
+    -- then the free chain
+    module _ (ok : Bool) (m₂ : List ℕ) (v : FreeFollowed t (shapeOf h) (h .free) m₁ ok m₂) where
       abbrev both-marks : List ℕ
-      both-marks = marked 2 (freeOf t h) (marked 1 (usedOf t h) fresh-marks)
+      both-marks = marked 2 (freeOf t h) (marked 1 (usedOf t h) no-marks)
 
-      free-judged : ok ≡ walks anyTwo 2 0 (freeOf t h) (marked 1 (usedOf t h) fresh-marks)
+      free-judged : ok ≡ takesAll anyTwo 2 0 (freeOf t h) (marked 1 (usedOf t h) no-marks)
       free-judged = v .judged ∙ rw (marks-stay, stored yes)
 
       free-stored : ok ≡ true → m₂ ≡ both-marks
       free-stored e = v .stored e ∙ rw (marks-stay, stored yes)
 
       so-far : tableChained t h ≡ (ok && allMarked both-marks)
-      so-far = rule-is (h .blocks) (linksOf t h) ∙ rw (sym judged ∙ yes, eq-eqb (lastOf 0 (usedOf t h)) (h .last) (sym (ended yes) ∙ at-last), ← free-judged)
+      so-far = rule-is (h .blocks) (linksOf t h) ∙ rw (sym judged ∙ yes, at-last, ← free-judged)
 
       pub free-broken : ok ≡ false → tableChained t h ≡ false
       free-broken e = so-far ∙ rw e

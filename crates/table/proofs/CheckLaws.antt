@@ -3,7 +3,8 @@ use Prim.Native.Nat.{ℕ, _≤_, _<_}
 use mathlib.Core.Path.{_≡_, _∙_}
 use mathlib.Core.Bool.{true, false}
 use mathlib.Core.List.{List, _++_, foldl}
-use lib.ListN.{length, replicate, drop}
+use lib.ListN.{length, take, drop, replicate, length-replicate}
+use lib.Seq.{take-at, drop-at}
 use borrow.Author.Tests.{eq-eqb, ne-eqb, le-leb, lt-leb}
 use Rattle.header.specs.Header.{headerOf}
 use Rattle.header.specs.Rules.{Accepted}
@@ -14,15 +15,15 @@ use Rattle.chain.specs.Links.{usedOf}
 use Rattle.chain.specs.Marks.{marksOf}
 use Rattle.table.specs.Counts.{countsRight, sumFits}
 use Rattle.table.specs.Keys.{keysAscend}
-use Rattle.table.specs.Table.{tableChained, recordsAnswer, blocksAnswer, tableAnswer, blockMarks, bufferAfter, tableMarks}
+use Rattle.table.specs.Table.{tableChained, rulesAnswer, blocksAnswer, tableAnswer, blockMarks, bufferAfter, tableMarks}
 use Rattle.table.specs.Steps.{nothing, addBlock, tallyAnswer}
 use Rattle.table.proofs.TallyLaws.{tally-answer}
 
 -- ---- 8, 9, 16, 10
 
 module _ (t : List ℕ) (h : Header) where
-  pub chains-refused : tableChained t h ≡ false → (8 ≡ recordsAnswer t h) × (replicate (h .blocks) 0 ≡ blockMarks t h)
-  unfolding recordsAnswer blockMarks
+  pub chains-refused : tableChained t h ≡ false → (8 ≡ rulesAnswer t h) × (replicate (h .blocks) 0 ≡ blockMarks t h)
+  unfolding rulesAnswer blockMarks
   chains-refused e = (rw e, rw e)
 
   pub chains-kept : tableChained t h ≡ true → marksOf (h .blocks) (usedOf t h) ≡ blockMarks t h
@@ -35,8 +36,8 @@ module _ (t : List ℕ) (h : Header) where
   keyless a e = a .key-length ∙ rw e
 
   -- the tally of the used blocks answers for the rules
-  pub records-answered : Accepted t h → tableChained t h ≡ true → tallyAnswer (foldl (addBlock t (shapeOf h) (h .key)) nothing (usedOf t h)) (h .records) ≡ recordsAnswer t h
-  unfolding recordsAnswer countsRight sumFits keysAscend
+  pub records-answered : Accepted t h → tableChained t h ≡ true → tallyAnswer (foldl (addBlock t (shapeOf h) (h .key)) nothing (usedOf t h)) (h .records) ≡ rulesAnswer t h
+  unfolding rulesAnswer countsRight sumFits keysAscend
   records-answered a e = tally-answer t (shapeOf h) (h .key) (usedOf t h) (h .keys) (a .key-least) (keyless a) (h .records) ∙ rw e
 
   -- ---- 14
@@ -46,7 +47,7 @@ module _ (t : List ℕ) (h : Header) where
     unfolding blocksAnswer bufferAfter
     buffer-short l = (rw (lt-leb (h .blocks) (length m) l), rw (lt-leb (h .blocks) (length m) l))
 
-    pub buffer-long : h .blocks ≤ length m → (recordsAnswer t h ≡ blocksAnswer t h (length m)) × (blockMarks t h ++ drop (h .blocks) m ≡ bufferAfter t h m)
+    pub buffer-long : h .blocks ≤ length m → (rulesAnswer t h ≡ blocksAnswer t h (length m)) × (blockMarks t h ++ drop (h .blocks) m ≡ bufferAfter t h m)
     unfolding blocksAnswer bufferAfter
     buffer-long l = (rw (le-leb (h .blocks) (length m) l), rw (le-leb (h .blocks) (length m) l))
 
@@ -60,3 +61,16 @@ module _ (t m : List ℕ) where
   pub header-accepted : headerOf t .refusal ≡ 0 → (blocksAnswer t (headerOf t) (length m) ≡ tableAnswer t (length m)) × (bufferAfter t (headerOf t) m ≡ tableMarks t m)
   unfolding tableAnswer tableMarks
   header-accepted e = (rw (eq-eqb (headerOf t .refusal) 0 e), rw (eq-eqb (headerOf t .refusal) 0 e))
+
+-- ---- the marks of n blocks taken away, and those lent
+
+module _ (n : ℕ) (m m₁ : List ℕ) (e : m₁ ≡ replicate n 0 ++ drop n m) where
+  pub cleared-part : take n m₁ ≡ replicate n 0
+  cleared-part = rw e (take-at (replicate n 0) (drop n m) n (length-replicate n 0))
+
+  pub cleared-rest : drop n m₁ ≡ drop n m
+  cleared-rest = rw e (drop-at (replicate n 0) (drop n m) n (length-replicate n 0))
+
+  -- again, when the part that was lent has come back as m₂
+  pub cleared-again : (m₂ m₃ : List ℕ) → length m₂ ≡ n → m₃ ≡ replicate n 0 ++ drop n (m₂ ++ drop n m₁) → m₃ ≡ replicate n 0 ++ drop n m
+  cleared-again m₂ m₃ l k = k ∙ rw (drop-at m₂ (drop n m₁) n l, cleared-rest)

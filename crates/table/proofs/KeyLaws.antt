@@ -11,6 +11,7 @@ use lib.Dec.{eqb}
 use lib.ListN.{length}
 use borrow.Author.Tests.{eq-eqb, ne-eqb}
 use Rattle.words.specs.Order.{isLess, order, range}
+use Rattle.words.proofs.Cases.{cond-same}
 use Rattle.blocks.specs.Shape.{recordAt, Sound}
 use Rattle.blocks.specs.Counts.{countIn}
 use Rattle.blocks.specs.declared.Shape.{Shape}
@@ -21,10 +22,6 @@ use Rattle.table.specs.Keys.{keyAt, ascendFrom, ascend}
 use Rattle.table.specs.Steps.{nextKey, keysAfter, runAfter, isOrdered, KeyInside, last, unordered, RunInside}
 use Rattle.table.specs.declared.keys.Keys.{Keys}
 use Rattle.table.specs.declared.keys.Keys.the-variants.{None, Last, Unordered}
-
-cond-same : (c : Bool) (keys : Keys) → cond c keys keys ≡ keys
-cond-same true keys = refl
-cond-same false keys = refl
 
 module _ (t : List ℕ) (g : Shape) (key b : ℕ) where
   -- ---- the records of a block from a place up to a count

@@ -19,7 +19,7 @@ use Rattle.chain.specs.Rules.{ChainRules}
 use Rattle.chain.proofs.RuleLaws.{rules-give, rules-take, rules-length, rules-once, used-is}
 use Rattle.table.specs.Counts.{countsGood, total, countsRight, sumFits}
 use Rattle.table.specs.Keys.{keysOf, ascend, keysAscend}
-use Rattle.table.specs.Table.{tableChained, recordsAnswer, blocksAnswer, tableAnswer}
+use Rattle.table.specs.Table.{tableChained, rulesAnswer, blocksAnswer, tableAnswer}
 use Rattle.table.specs.Rules.{Ascending, TableRules, AcceptedTable}
 use Rattle.table.proofs.RecordLaws.{records-total, counts-give, counts-take, ascend-gives, ascend-takes, ascending-pairs}
 
@@ -28,21 +28,21 @@ use Rattle.table.proofs.RecordLaws.{records-total, counts-give, counts-
 -- the tests of a table, apart
 record Kept (t : List ℕ) (h : Header) : Type 0 where
   chains : tableChained t h ≡ true
-  counts : countsRight t h ≡ true
-  few : sumFits t h ≡ true
-  keys : keysAscend t h ≡ true
+  counts : countsRight t h (usedOf t h) ≡ true
+  few : sumFits t h (usedOf t h) ≡ true
+  keys : keysAscend t h (usedOf t h) ≡ true
 
-records-give : (t : List ℕ) (h : Header) → recordsAnswer t h ≡ 0 → Kept t h
-unfolding recordsAnswer
+records-give : (t : List ℕ) (h : Header) → rulesAnswer t h ≡ 0 → Kept t h
+unfolding rulesAnswer
 records-give t h e =
     let p₁ = kept-of (tableChained t h) 7 _ e in
-    let p₂ = kept-of (countsRight t h) 8 _ (p₁ .1) in
-    let p₃ = kept-of (sumFits t h) 15 _ (p₂ .1) in
-    let p₄ = kept-of (keysAscend t h) 9 0 (p₃ .1) in
+    let p₂ = kept-of (countsRight t h (usedOf t h)) 8 _ (p₁ .1) in
+    let p₃ = kept-of (sumFits t h (usedOf t h)) 15 _ (p₂ .1) in
+    let p₄ = kept-of (keysAscend t h (usedOf t h)) 9 0 (p₃ .1) in
     record { chains = p₁ .0; counts = p₂ .0; few = p₃ .0; keys = p₄ .0 }
 
-records-take : (t : List ℕ) (h : Header) → Kept t h → recordsAnswer t h ≡ 0
-unfolding recordsAnswer
+records-take : (t : List ℕ) (h : Header) → Kept t h → rulesAnswer t h ≡ 0
+unfolding rulesAnswer
 records-take t h k = rw (k .chains, k .counts, k .few, k .keys)
 
 -- the header's number comes first
@@ -56,15 +56,15 @@ answer-parts t room e = accepted-first (headerOf t .refusal) (blocksAnswer t (he
 
 blocks-give : (t : List ℕ) (h : Header) (room : ℕ) → blocksAnswer t h room ≡ 0 → Kept t h
 unfolding blocksAnswer
-blocks-give t h room e = records-give t h (kept-of (leb (h .blocks) room) 13 (recordsAnswer t h) e .1)
+blocks-give t h room e = records-give t h (kept-of (leb (h .blocks) room) 13 (rulesAnswer t h) e .1)
 
 -- ---- the tests are the propositions
 
-keys-give : (t : List ℕ) (h : Header) → keysAscend t h ≡ true → 1 ≤ h .keys → Ascending (keysOf t h)
+keys-give : (t : List ℕ) (h : Header) → keysAscend t h (usedOf t h) ≡ true → 1 ≤ h .keys → Ascending (keysOf t h)
 unfolding keysAscend
 keys-give t h e l = ascend-gives (keysOf t h) (rw (le-leb 1 (h .keys) l) at e)
 
-keys-take : (t : List ℕ) (h : Header) → (1 ≤ h .keys → Ascending (keysOf t h)) → keysAscend t h ≡ true
+keys-take : (t : List ℕ) (h : Header) → (1 ≤ h .keys → Ascending (keysOf t h)) → keysAscend t h (usedOf t h) ≡ true
 unfolding keysAscend
 keys-take t h k = go (leb 1 (h .keys)) refl
   where

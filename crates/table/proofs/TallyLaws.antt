@@ -22,6 +22,7 @@ use Rattle.table.specs.Counts.{isGood, countsGood, total}
 use Rattle.table.specs.Keys.{keysIn, ascend}
 use Rattle.table.specs.Steps.{nextKey, isOrdered, KeyInside, unordered, nothing, uncounted, addCount, addBlock, tallyAnswer}
 use Rattle.table.specs.declared.keys.Keys.{Keys}
+use Rattle.table.specs.declared.keys.Keys.the-variants.{None}
 use Rattle.table.specs.declared.tally.Tally.{Tally}
 use Rattle.table.proofs.KeyLaws.{passed, ascendAfter, run-keyless, run-passed, passed-ascend, run-stays}
 
@@ -84,66 +85,37 @@ module _ (t : List ℕ) (g : Shape) (key : ℕ) where
             ∙ sym (foldl-append (λ (k : Keys) (q : Position). nextKey t key k (recordAt g (q .block) (q .place))) (s .keys) (placesFrom b 0 n) (recordsIn t g bs));
       })
 
-  -- every count was good before and is good in these blocks
-  pub tally-counted : (s : Tally) (bs : List ℕ) → foldl (addBlock t g key) s bs .counted ≡ (s .counted && countsGood t g bs)
-  tally-counted s bs = go (s .counted) refl (countsGood t g bs) refl
-    where
-      go : (c : Bool) → s .counted ≡ c → (d : Bool) → countsGood t g bs ≡ d → foldl (addBlock t g key) s bs .counted ≡ (c && d)
-      go false e d f = rw (tally-behind s bs e) e
-      go true e false f = tally-bad s bs e f
-      go true e true f = tally-good s bs e f .counted
-
-  -- where every count was good
-  module _ (s : Tally) (bs : List ℕ) (e : foldl (addBlock t g key) s bs .counted ≡ true) where
-    added : Added s bs (foldl (addBlock t g key) s bs)
-    added = let p = both {a = s .counted} {b = countsGood t g bs} (sym (tally-counted s bs) ∙ e) in tally-good s bs (p .0) (p .1)
-
-    -- the counts are added up
-    pub tally-records : foldl (addBlock t g key) s bs .records ≡ s .records + total t g bs
-    tally-records = added .records
-
-    -- the keys are judged
-    pub tally-keys : 1 ≤ key → isOrdered (foldl (addBlock t g key) s bs .keys) ≡ ascendAfter t key (s .keys) (keysIn t g key bs)
-    tally-keys h = ap isOrdered (added .keyed (λ z. omega arith)) ∙ passed-ascend t g key (recordsIn t g bs) (s .keys)
-
-    -- of key length 0 no key is looked at
-    pub tally-keyless : key ≡ 0 → foldl (addBlock t g key) s bs .keys ≡ s .keys
-    tally-keyless = added .keyless
-
   -- ---- the answer
 
   -- key fields and a key length are there or not together
-  module _ (used : List ℕ) (keys : ℕ) (keyed : 1 ≤ keys → 1 ≤ key) (keyless : keys ≡ 0 → key ≡ 0) where
+  module _ (used : List ℕ) (keys : ℕ) (some : 1 ≤ keys → 1 ≤ key) (none : keys ≡ 0 → key ≡ 0) where
     abbrev whole : Tally
     whole = foldl (addBlock t g key) nothing used
 
     -- where every count is good the tally's keys are judged as the rule says
-    keys-judged : whole .counted ≡ true → isOrdered (whole .keys) ≡ cond (leb 1 keys) (ascend (keysIn t g key used)) true
+    keys-judged : Added nothing used whole → isOrdered (whole .keys) ≡ cond (leb 1 keys) (ascend (keysIn t g key used)) true
     unfolding nothing ascendAfter isOrdered
-    keys-judged e = go (leb 1 keys) refl
+    keys-judged a = go (leb 1 keys) refl
       where
         go : (c : Bool) → leb 1 keys ≡ c → isOrdered (whole .keys) ≡ cond c (ascend (keysIn t g key used)) true
-        go true h = tally-keys nothing used e (keyed (leb-true 1 keys h))
-        go false h = ap isOrdered (tally-keyless nothing used e (keyless (omega (arith, leb-false 1 keys h))))
+        go true h = ap isOrdered (a .keyed (λ z. omega (arith, some (leb-true 1 keys h)))) ∙ passed-ascend t g key (recordsIn t g used) None
+        go false h = ap isOrdered (a .keyless (none (omega (arith, leb-false 1 keys h))))
 
     -- what the rules answer, with every count good or not
-    abbrev answer : Bool → ℕ → ℕ
+    abbrev pub answer : Bool → ℕ → ℕ
     answer good records =
         firstBroken (good && eqb (total t g used) records) wrongCount
         (firstBroken (leb (total t g used) mostRecords) tooManyRecords
         (firstBroken (cond (leb 1 keys) (ascend (keysIn t g key used)) true) keyOrder 0))
 
     -- the tally of all used blocks answers what the rules do
-    pub tally-answer : (records : ℕ) → tallyAnswer (foldl (addBlock t g key) nothing used) records
-        ≡ firstBroken (countsGood t g used && eqb (total t g used) records) wrongCount
-        (firstBroken (leb (total t g used) mostRecords) tooManyRecords
-        (firstBroken (cond (leb 1 keys) (ascend (keysIn t g key used)) true) keyOrder 0))
+    pub tally-answer : (records : ℕ) → tallyAnswer (foldl (addBlock t g key) nothing used) records ≡ answer (countsGood t g used) records
     unfolding nothing tallyAnswer
     tally-answer records = go (countsGood t g used) refl
       where
         go : (c : Bool) → countsGood t g used ≡ c → tallyAnswer whole records ≡ answer c records
         go false h = rw (tally-bad nothing used refl h)
-        go true h = let a = tally-good nothing used refl h in rw (a .counted, a .records ∙ zero-add (total t g used), keys-judged (a .counted))
+        go true h = let a = tally-good nothing used refl h in rw (a .counted, a .records ∙ zero-add (total t g used), keys-judged a)
 
   -- ---- what stays so from block to block
 

@@ -1,4 +1,4 @@
--- Count rules over the used blocks (refusals 9 and 16). Definitions only.
+-- Count rules over the used blocks, a list of block numbers (refusals 9 and 16). Definitions only.
 use Prim.Native.Nat.{ℕ, _+_}
 use mathlib.Core.Bool.{Bool, true, false, _&&_}
 use mathlib.Core.List.{List, [], _∷_}
@@ -11,7 +11,6 @@ use Rattle.blocks.specs.declared.Shape.{Shape}
 use Rattle.blocks.specs.declared.count.Count.{Count}
 use Rattle.blocks.specs.declared.count.Count.the-variants.{Records, Bad}
 use Rattle.chain.specs.Chain.{every}
-use Rattle.chain.specs.Links.{usedOf}
 use Rattle.table.specs.Records.{held}
 
 -- a block's count keeps the count rule
@@ -29,9 +28,9 @@ total t g [] = 0
 total t g (b ∷ bs) = held (countIn t g b) + total t g bs
 
 -- 9: the count of every used block is good, and they add up to the header's
-unfoldable pub countsRight : List ℕ → Header → Bool
-countsRight t h = countsGood t (shapeOf h) (usedOf t h) && eqb (total t (shapeOf h) (usedOf t h)) (h .records)
+unfoldable pub countsRight : List ℕ → Header → List ℕ → Bool
+countsRight t h used = countsGood t (shapeOf h) used && eqb (total t (shapeOf h) used) (h .records)
 
--- 16: the counts add up to at most 2,147,483,647
-unfoldable pub sumFits : List ℕ → Header → Bool
-sumFits t h = leb (total t (shapeOf h) (usedOf t h)) mostRecords
+-- 16: the counts of the used blocks add up to at most 2,147,483,647
+unfoldable pub sumFits : List ℕ → Header → List ℕ → Bool
+sumFits t h used = leb (total t (shapeOf h) used) mostRecords

@@ -10,13 +10,13 @@ use Rattle.blocks.specs.declared.Shape.{Shape}
 use Rattle.chain.specs.Links.{usedOf}
 use Rattle.table.specs.Records.{Position, recordsIn}
 
--- a record's key: its first bytes, as many as the key length
+-- a record's key of n bytes: its first n bytes
 abbrev pub keyAt : List ℕ → Shape → ℕ → Position → List ℕ
-keyAt t g key p = range t (recordAt g (p .block) (p .place)) key
+keyAt t g n p = range t (recordAt g (p .block) (p .place)) n
 
 -- the keys of the records of some blocks, block by block
 abbrev pub keysIn : List ℕ → Shape → ℕ → List ℕ → List (List ℕ)
-keysIn t g key bs = map (keyAt t g key) (recordsIn t g bs)
+keysIn t g n bs = map (keyAt t g n) (recordsIn t g bs)
 
 -- the keys of a table's records, in chain order
 abbrev pub keysOf : List ℕ → Header → List (List ℕ)
@@ -32,6 +32,6 @@ unfoldable pub ascend : List (List ℕ) → Bool
 ascend [] = true
 ascend (key ∷ keys) = ascendFrom key keys
 
--- 10: with key fields, the keys of all records strictly ascend
-unfoldable pub keysAscend : List ℕ → Header → Bool
-keysAscend t h = cond (leb 1 (h .keys)) (ascend (keysOf t h)) true
+-- 10: with key fields, the keys of all records of the used blocks strictly ascend; the key length is the header's
+unfoldable pub keysAscend : List ℕ → Header → List ℕ → Bool
+keysAscend t h used = cond (leb 1 (h .keys)) (ascend (keysIn t (shapeOf h) (h .key) used)) true

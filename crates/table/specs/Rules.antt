@@ -5,7 +5,7 @@ use mathlib.Core.List.{List, [], _++_}
 use lib.ListN.{length, getD, replicate, drop}
 use Rattle.words.specs.Order.{order}
 use Rattle.words.specs.declared.Order.the-variants.{Less}
-use Rattle.header.specs.Refusals.{fieldRule, chainRule, wrongCount, keyOrder, shortBuffer, tooManyRecords}
+use Rattle.header.specs.Refusals.{chainRule, wrongCount, keyOrder, shortBuffer, tooManyRecords}
 use Rattle.header.specs.Header.{mostRecords, headerOf}
 use Rattle.header.specs.Rules.{HeaderRules, Accepted}
 use Rattle.header.specs.declared.Header.{Header}
@@ -43,7 +43,7 @@ pub record TableRules (t : List ℕ) : Type 0 where
   -- 9: no used block's count is bad, and the counts add up to the header's
   pub counts : (i : ℕ) → i < length used → countIn t (shapeOf (headerOf t)) (getD used i 0) ≡ Bad → ⊥
   pub sum : total t (shapeOf (headerOf t)) used ≡ headerOf t .records
-  -- 16
+  -- 16: they add up to at most 2,147,483,647
   pub few : total t (shapeOf (headerOf t)) used ≤ mostRecords
   -- 10: with key fields, the keys of all records in chain order strictly ascend
   pub keys : 1 ≤ headerOf t .keys → Ascending (keysIn t (shapeOf (headerOf t)) (headerOf t .key) used)
@@ -66,13 +66,14 @@ pub record AcceptedTable (t : List ℕ) (h : Header) : Type 0 where
 
 -- ---- the mark buffer m by the answer
 
--- behind the marks of its blocks, where they are written, the buffer stays
+-- the marks of both chains; behind them the buffer stays
 abbrev pub noted : List ℕ → List ℕ → List ℕ
 noted t m = marksOf (headerOf t .blocks) (usedOf t (headerOf t)) ++ drop (headerOf t .blocks) m
 
+-- an answer, and what the buffer holds then
 pub data MarksLeft (t m : List ℕ) : ℕ → List ℕ → Type 0 where
-  -- 1 to 7 and 14: unchanged
-  by-header : {a : ℕ} → 1 ≤ a → a ≤ fieldRule → MarksLeft t m a m
+  -- the header's number (1 to 7), and 14: unchanged
+  by-header : {a : ℕ} → headerOf t .refusal ≡ a → 1 ≤ a → MarksLeft t m a m
   by-buffer : MarksLeft t m shortBuffer m
   -- 8: the mark of every block is 0
   by-chains : MarksLeft t m chainRule (replicate (headerOf t .blocks) unmarked ++ drop (headerOf t .blocks) m)

@@ -17,13 +17,13 @@ use Rattle.blocks.specs.declared.count.Count.{Count}
 use Rattle.blocks.specs.declared.count.Count.the-variants.{Records, Bad}
 use Rattle.chain.specs.Chain.{chainFrom, names, lastOf}
 use Rattle.chain.specs.Links.{nextOf, previousOf, usedOf}
-use Rattle.chain.specs.Marks.{unmarked, usedMark, marksOf}
-use Rattle.chain.specs.Steps.{walks, marked}
+use Rattle.chain.specs.Marks.{unmarked, usedMark, freeMark, marksOf}
+use Rattle.chain.specs.Steps.{takesAll, marked, anyTwo}
 use Rattle.table.specs.Table.{tableChained}
 use Rattle.table.specs.declared.keys.Keys.{Keys}
 use Rattle.table.specs.declared.keys.Keys.the-variants.{None, Last, Unordered}
 use Rattle.table.specs.declared.tally.Tally.{Tally}
-use Rattle.table.specs.declared.walk.Walk.{Walk}
+use Rattle.table.specs.declared.used.UsedChain.{UsedChain}
 use Rattle.table.specs.declared.chains.Chains.{Chains}
 
 -- ---- keys
@@ -92,24 +92,29 @@ tallyAnswer tally records =
 
 -- ---- chains
 
--- what the walk along the used chain asks: a mark for each block, and a key that is part of its record
-pub record Walkable (t : List ℕ) (g : Shape) (key : ℕ) (m : List ℕ) : Type 0 where
+-- what following the used chain asks: a mark for each block, and a key that is part of its record
+pub record Followable (t : List ℕ) (g : Shape) (key : ℕ) (m : List ℕ) : Type 0 where
   pub sound : Sound t g
   pub short : key ≤ g .size
   pub few : g .blocks ≤ mostBlocks
   pub long : length m ≡ g .blocks
 
 -- what it answers, and leaves in the marks
-pub record UsedWalked (t : List ℕ) (g : Shape) (key first : ℕ) (m : List ℕ) (r : Walk) (m′ : List ℕ) : Type 0 where
-  pub judged : r .whole ≡ walks (names (previousOf t g)) usedMark 0 (chainFrom (nextOf t g) (length m) first) m
+pub record UsedFollowed (t : List ℕ) (g : Shape) (key first : ℕ) (m : List ℕ) (r : UsedChain) (m′ : List ℕ) : Type 0 where
+  pub judged : r .whole ≡ takesAll (names (previousOf t g)) usedMark 0 (chainFrom (nextOf t g) (length m) first) m
   pub ended : r .whole ≡ true → r .last ≡ lastOf 0 (chainFrom (nextOf t g) (length m) first)
   pub stored : r .whole ≡ true → m′ ≡ marked usedMark (chainFrom (nextOf t g) (length m) first) m
   pub tallied : r .whole ≡ true → r .tally ≡ foldl (addBlock t g key) nothing (chainFrom (nextOf t g) (length m) first)
 
+-- what following the free chain answers, and leaves in the marks
+pub record FreeFollowed (t : List ℕ) (g : Shape) (first : ℕ) (m : List ℕ) (whole : Bool) (m′ : List ℕ) : Type 0 where
+  pub judged : whole ≡ takesAll anyTwo freeMark 0 (chainFrom (nextOf t g) (length m) first) m
+  pub stored : whole ≡ true → m′ ≡ marked freeMark (chainFrom (nextOf t g) (length m) first) m
+
 -- what marking both chains asks: an accepted header, and a mark for each block, none of them set
 pub record Markable (t : List ℕ) (h : Header) (m : List ℕ) : Type 0 where
   pub header : Accepted t h
-  pub clean : m ≡ replicate (h .blocks) unmarked
+  pub no-marks : m ≡ replicate (h .blocks) unmarked
 
 -- what it answers, and leaves in the marks
 pub record ChainsMarked (t : List ℕ) (h : Header) (r : Chains) (m′ : List ℕ) : Type 0 where

@@ -20,16 +20,16 @@ tableChained t h = chainsRight (h .blocks) (linksOf t h)
 -- ---- the answer
 
 -- 8, 9, 16, 10: the first broken rule's number, or 0
-unfoldable pub recordsAnswer : List ℕ → Header → ℕ
-recordsAnswer t h =
+unfoldable pub rulesAnswer : List ℕ → Header → ℕ
+rulesAnswer t h =
     firstBroken (tableChained t h) chainRule
-    (firstBroken (countsRight t h) wrongCount
-    (firstBroken (sumFits t h) tooManyRecords
-    (firstBroken (keysAscend t h) keyOrder 0)))
+    (firstBroken (countsRight t h (usedOf t h)) wrongCount
+    (firstBroken (sumFits t h (usedOf t h)) tooManyRecords
+    (firstBroken (keysAscend t h (usedOf t h)) keyOrder 0)))
 
 -- 14 comes before them: a mark buffer of `room` bytes has one for each block
 unfoldable pub blocksAnswer : List ℕ → Header → ℕ → ℕ
-blocksAnswer t h room = firstBroken (leb (h .blocks) room) shortBuffer (recordsAnswer t h)
+blocksAnswer t h room = firstBroken (leb (h .blocks) room) shortBuffer (rulesAnswer t h)
 
 -- what checking a table answers, for any bytes and a mark buffer of `room` bytes
 unfoldable pub tableAnswer : List ℕ → ℕ → ℕ

@@ -1,10 +1,10 @@
-// Both chains: the used one walked, then the free one; then every block must have a mark.
+// Both chains: the used one followed, then the free one; then every block must have a mark.
 // The module is private: its function is a helper of the check, which meets what it requires.
 ghost use Rattle.table.specs.Steps.{ChainsMarked, Markable};
+use crate::free::follow_free;
 use crate::tally::Tally;
-use crate::walk::walk_used;
+use crate::used::follow_used;
 use chain::marks;
-use chain::walk_free;
 use header::Header;
 
 // What the chains of a table come to.
@@ -21,22 +21,16 @@ pub fn mark_chains(table: &[u8], h: Header, marks: &mut [u8]) -> Chains
     ensures { λ r. ⌜ ChainsMarked (now (table .entry)) h r (now (marks .exit)) ⌝ }
 {
     let shape = blocks::shape_of(h);
-    let used = walk_used(table, shape, h.key as usize, h.first as usize, marks);
+    let used = follow_used(table, shape, h.key as usize, h.first as usize, marks);
     let tally = used.tally;
-    if !used.whole {
+    let right = used.whole & (used.last == h.last as usize);
+    if !right {
         return Chains {
             right: false,
             tally,
         };
     }
-    let last = h.last as usize;
-    if used.last != last {
-        return Chains {
-            right: false,
-            tally,
-        };
-    }
-    if !walk_free(table, shape, h.free as usize, marks) {
+    if !follow_free(table, shape, h.free as usize, marks) {
         return Chains {
             right: false,
             tally,

@@ -1,13 +1,14 @@
 // The table check: chains, counts and key order of the used blocks, in one pass along each chain.
 mod chains;
+mod free;
 mod keys;
 mod tally;
-mod walk;
+mod used;
 
 ghost use mathlib.Core.Path.{_≡_};
 ghost use lib.ListN.{length};
 ghost use Rattle.header.specs.Rules.{Accepted};
-ghost use Rattle.table.specs.Table.{blockMarks, blocksAnswer, bufferAfter, recordsAnswer, tableAnswer, tableMarks};
+ghost use Rattle.table.specs.Table.{blocksAnswer, bufferAfter, tableAnswer, tableMarks};
 use chain::marks;
 use header::Header;
 use header::refusal;
@@ -34,17 +35,8 @@ pub fn check_blocks(table: &[u8], h: Header, marks: &mut [u8]) -> u8
     if marks.len() < blocks {
         return refusal::SHORT_BUFFER;
     }
-    check_records(table, h, &mut marks[..blocks])
-}
-
-// The same over one mark for each block.
-fn check_records(table: &[u8], h: Header, marks: &mut [u8]) -> u8
-    requires { ⌜ Accepted (now table) h × (length (now marks) ≡ h .blocks) ⌝ }
-    ensures { λ r. ⌜ (r ≡ recordsAnswer (now (table .entry)) h) × (now (marks .exit) ≡ blockMarks (now (table .entry)) h) ⌝ }
-{
-    let blocks = h.blocks as usize;
     marks::clear(marks, blocks);
-    let chains = chains::mark_chains(table, h, marks);
+    let chains = chains::mark_chains(table, h, &mut marks[..blocks]);
     if !chains.right {
         marks::clear(marks, blocks);
         return refusal::CHAIN_RULE;

@@ -1,5 +1,5 @@
 // What the blocks passed come to: their counts added up, and the keys of their records.
-// The module is private: its functions are helpers of the walk, which meets what they require.
+// The module is private: its functions are helpers of the used chain, which meets what they require.
 ghost use mathlib.Core.Path.{_≡_};
 ghost use Prim.Native.Nat.{_+_, _≤_};
 ghost use Rattle.blocks.specs.Shape.{Sound};

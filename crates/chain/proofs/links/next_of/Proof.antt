@@ -1,10 +1,9 @@
--- `next_of` meets its contract: a block's head is inside the file. Assumes nothing.
+-- `next_of` meets its contract. Assumes nothing.
 use borrow.Author.Needs.{needs}
 use native.Mathlib.Omega.{arith}
 use mathlib.Core.Path.{ap, _∙_}
 use Prim.Native.Nat.{ℕ}
 use Rattle.words.specs.Numbers.{word}
-use Rattle.blocks.proofs.ShapeLaws.{head-inside}
 use Rattle.chain.specs.Links.{nextOf}
 use Rattle.chain.proofs.links.next_of.Statement.{statement}
 use Rattle.chain.proofs.links.next_of.Tie as tie
@@ -13,10 +12,7 @@ block-at-requires : tie.Need-block-at-requires
 block-at-requires c κs = search needs
 
 word-requires : tie.Need-word-requires
-word-requires c κs =
-    let v = c .before .before .args in
-    let p = c .before .before .pre in
-    omega (arith, c .block-at .ensures, head-inside (v .file .now) (v .shape) (p .2) (v .block) (p .0) (p .1))
+word-requires c κs = omega (arith, c .block-at .ensures, c .before .before .pre .2)
 
 cast-result : tie.Need-cast-result
 cast-result c = search needs

@@ -1,4 +1,4 @@
--- A chain that is being walked with marks: what is still to come decides what the whole chain comes to. The walk ends, since each
+-- A chain that is being followed with marks: what is still to come decides what the whole chain comes to. It ends, since each
 -- turn leaves one block fewer without a mark. Assumes nothing.
 use Prim.Native.Nat.{ℕ, zero, suc, _+_, _-_, _≤_, _<_}
 use mathlib.Core.Path.{_≡_, refl, sym, _∙_}
@@ -13,21 +13,21 @@ use Rattle.words.proofs.Conjunctions.{both}
 use Rattle.blocks.specs.Shape.{inFile}
 use Rattle.blocks.proofs.ShapeLaws.{in-file}
 use Rattle.chain.specs.Chain.{follow, times, lastOf}
-use Rattle.chain.specs.Steps.{isFresh, takes, walks, marked}
+use Rattle.chain.specs.Steps.{isUnmarked, takes, takesAll, marked}
 
 -- ---- a block without a mark
 
-pub record Fresh (m : List ℕ) (b : ℕ) : Type 0 where
+pub record Unmarked (m : List ℕ) (b : ℕ) : Type 0 where
   pub low : 1 ≤ b
   pub high : b ≤ length m
-  pub clean : getD m (b - 1) 0 ≡ 0
+  pub no-mark : getD m (b - 1) 0 ≡ 0
 
-pub fresh : (m : List ℕ) (b : ℕ) → isFresh m b ≡ true → Fresh m b
-unfolding isFresh
-fresh m b e =
+pub unmarked-gives : (m : List ℕ) (b : ℕ) → isUnmarked m b ≡ true → Unmarked m b
+unfolding isUnmarked
+unmarked-gives m b e =
     let p = both {a = inFile (length m) b} {b = eqb (getD m (b - 1) 0) 0} e in
     let q = in-file (length m) b (p .0) in
-    record { low = q .0; high = q .1; clean = eqb-true (getD m (b - 1) 0) 0 (p .1) }
+    record { low = q .0; high = q .1; no-mark = eqb-true (getD m (b - 1) 0) 0 (p .1) }
 
 -- ---- how many blocks have no mark
 
@@ -47,37 +47,37 @@ one-fewer (x ∷ m) zero mark l e h = rw (eq-eqb x 0, ne-eqb mark 0 (omega arith
 one-fewer (x ∷ m) (suc i) mark l e h = rw (one-fewer m i mark (le-of-suc-le-suc l) e h) (omega arith)
 
 -- a block that gets a mark leaves one fewer without
-pub fewer : (m : List ℕ) (b mark : ℕ) → Fresh m b → 0 < mark → times 0 m ≡ suc (times 0 (set m (b - 1) mark))
-fewer m b mark f pos = one-fewer m (b - 1) mark (omega (arith, f .low, f .high)) (f .clean) pos
+pub fewer : (m : List ℕ) (b mark : ℕ) → Unmarked m b → 0 < mark → times 0 m ≡ suc (times 0 (set m (b - 1) mark))
+fewer m b mark f pos = one-fewer m (b - 1) mark (omega (arith, f .low, f .high)) (f .no-mark) pos
 
--- ---- the walk
+-- ---- one chain
 
 -- `add` gathers what the blocks passed come to, from s₀ on
 module _ {S : Type 0} (next : ℕ → ℕ) (test : ℕ → ℕ → Bool) (mark : ℕ) (add : S → ℕ → S) (s₀ : S) (whole m₀ : List ℕ) where
   pub record Going (m : List ℕ) (s : S) (before b : ℕ) : Type 0 where
     pub fuel : ℕ
     pub room : times 0 m < fuel
-    pub judged : walks test mark 0 whole m₀ ≡ walks test mark before (follow next fuel b) m
+    pub judged : takesAll test mark 0 whole m₀ ≡ takesAll test mark before (follow next fuel b) m
     pub ended : lastOf 0 whole ≡ lastOf before (follow next fuel b)
     pub stored : marked mark whole m₀ ≡ marked mark (follow next fuel b) m
     pub gathered : foldl add s₀ whole ≡ foldl add s (follow next fuel b)
     pub same : length m ≡ length m₀
 
   module _ (m : List ℕ) (s : S) (before : ℕ) where
-    on : (k b : ℕ) → (b ≡ 0 → ⊥) → 0 < mark → isFresh m b ≡ true → test before b ≡ true → times 0 m < k
-        → walks test mark 0 whole m₀ ≡ walks test mark before (follow next k b) m
+    on : (k b : ℕ) → (b ≡ 0 → ⊥) → 0 < mark → isUnmarked m b ≡ true → test before b ≡ true → times 0 m < k
+        → takesAll test mark 0 whole m₀ ≡ takesAll test mark before (follow next k b) m
         → lastOf 0 whole ≡ lastOf before (follow next k b)
         → marked mark whole m₀ ≡ marked mark (follow next k b) m
         → foldl add s₀ whole ≡ foldl add s (follow next k b)
         → length m ≡ length m₀
         → Going (set m (b - 1) mark) (add s b) b (next b)
-    unfolding follow walks lastOf marked
+    unfolding follow takesAll lastOf marked
     on zero b ne pos here ok room e₁ e₂ e₃ e₄ e₅ = absurd (not-suc-le-zero room)
     on (suc k) zero ne pos here ok room e₁ e₂ e₃ e₄ e₅ = absurd (ne refl)
     on (suc k) (suc b) ne pos here ok room e₁ e₂ e₃ e₄ e₅ =
         record {
           fuel = k;
-          room = omega (arith, fewer m (suc b) mark (fresh m (suc b) here) pos);
+          room = omega (arith, fewer m (suc b) mark (unmarked-gives m (suc b) here) pos);
           judged = e₁ ∙ rw (here, ok);
           ended = e₂;
           stored = e₃;
@@ -86,17 +86,17 @@ module _ {S : Type 0} (next : ℕ → ℕ) (test : ℕ → ℕ → Bool) (mark :
         }
 
     -- a block that may come next
-    pub step : (b : ℕ) → (b ≡ 0 → ⊥) → 0 < mark → isFresh m b ≡ true → test before b ≡ true → Going m s before b → Going (set m (b - 1) mark) (add s b) b (next b)
+    pub step : (b : ℕ) → (b ≡ 0 → ⊥) → 0 < mark → isUnmarked m b ≡ true → test before b ≡ true → Going m s before b → Going (set m (b - 1) mark) (add s b) b (next b)
     step b ne pos here ok g = on (g .fuel) b ne pos here ok (g .room) (g .judged) (g .ended) (g .stored) (g .gathered) (g .same)
 
-    bad : (k b : ℕ) → (b ≡ 0 → ⊥) → takes test m before b ≡ false → times 0 m < k → walks test mark before (follow next k b) m ≡ false
-    unfolding follow walks
+    bad : (k b : ℕ) → (b ≡ 0 → ⊥) → takes test m before b ≡ false → times 0 m < k → takesAll test mark before (follow next k b) m ≡ false
+    unfolding follow takesAll
     bad zero b ne nok room = absurd (not-suc-le-zero room)
     bad (suc k) zero ne nok room = absurd (ne refl)
     bad (suc k) (suc b) ne nok room = rw nok
 
     -- a number that may not come next
-    pub broken : (b : ℕ) → (b ≡ 0 → ⊥) → takes test m before b ≡ false → Going m s before b → false ≡ walks test mark 0 whole m₀
+    pub broken : (b : ℕ) → (b ≡ 0 → ⊥) → takes test m before b ≡ false → Going m s before b → false ≡ takesAll test mark 0 whole m₀
     broken b ne nok g = sym (g .judged ∙ bad (g .fuel) b ne nok (g .room))
 
     done : (k b : ℕ) → b ≡ 0 → follow next k b ≡ []
@@ -107,8 +107,8 @@ module _ {S : Type 0} (next : ℕ → ℕ) (test : ℕ → ℕ → Bool) (mark :
 
     -- the end of the chain
     module _ (b : ℕ) (e : b ≡ 0) (g : Going m s before b) where
-      pub whole-judged : true ≡ walks test mark 0 whole m₀
-      unfolding walks
+      pub whole-judged : true ≡ takesAll test mark 0 whole m₀
+      unfolding takesAll
       whole-judged = sym (g .judged ∙ rw (done (g .fuel) b e))
 
       pub whole-ended : before ≡ lastOf 0 whole

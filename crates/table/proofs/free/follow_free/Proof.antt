@@ -1,18 +1,19 @@
--- `walk_free` meets its contract: the chain that is left decides what the whole comes to (WalkLaws). Assumes nothing.
+-- `follow_free` meets its contract: the chain that is left decides what the whole comes to (FollowLaws). Assumes nothing.
 use mathlib.Core.Path.{_≡_, refl, sym, _∙_}
 use mathlib.Core.Bool.{true, false, false≢true}
 use mathlib.Core.List.{List}
-use Prim.Native.Nat.{ℕ, _-_}
+use Prim.Native.Nat.{ℕ, _-_, _≤_}
 use native.Mathlib.Omega.{arith}
 use lib.ListN.{length}
 use borrow.Author.Needs.{needs}
 use borrow.Author.Tests.{not-true, not-false}
+use Rattle.blocks.proofs.ShapeLaws.{head-inside}
 use Rattle.chain.specs.Chain.{chainFrom, times}
 use Rattle.chain.specs.Links.{nextOf}
-use Rattle.chain.specs.Steps.{isFresh, anyTwo}
-use Rattle.chain.proofs.WalkLaws.{Fresh, fresh, fewer, Going, begin, step, broken, whole-judged, whole-stored}
-use Rattle.chain.proofs.free.walk_free.Statement.{statement}
-use Rattle.chain.proofs.free.walk_free.Tie as tie
+use Rattle.chain.specs.Steps.{isUnmarked, anyTwo}
+use Rattle.chain.proofs.FollowLaws.{Unmarked, unmarked-gives, fewer, Going, begin, step, broken, whole-judged, whole-stored}
+use Rattle.table.proofs.free.follow_free.Statement.{statement}
+use Rattle.table.proofs.free.follow_free.Tie as tie
 
 -- nothing is gathered on the way
 abbrev keep : ℕ → ℕ → ℕ
@@ -28,8 +29,8 @@ abbrev μ-loop : tie.MeasureT-loop
 loop-holds : tie.Need-loop-holds Inv-loop μ-loop
 loop-holds c = let v = c .before .before .args in (0, begin (nextOf (v .table .now) (v .shape)) anyTwo 2 keep 0 (v .first) (v .marks .now))
 
-is-fresh-requires : tie.Need-is-fresh-requires Inv-loop μ-loop
-is-fresh-requires c κs = search needs
+is-unmarked-requires : tie.Need-is-unmarked-requires Inv-loop μ-loop
+is-unmarked-requires c κs = search needs
 
 same-length : tie.Need-same-length Inv-loop μ-loop
 same-length c = c .before .before .before .before .loop .inv .1 .same
@@ -39,9 +40,9 @@ returns c =
     let v = c .before .before .before .before .before .before .before .args in
     let l = c .before .before .before .before .loop in
     let next = nextOf (v .table .now) (v .shape) in
-    let stale : isFresh (l .marks) (l .block) ≡ false = sym (c .before .is-fresh .ensures) ∙ not-true _ (c .if1 .taken) in
+    let has-mark : isUnmarked (l .marks) (l .block) ≡ false = sym (c .before .is-unmarked .ensures) ∙ not-true _ (c .if1 .taken) in
     record {
-      judged = broken next anyTwo 2 keep 0 (chainFrom next (length (v .marks .now)) (v .first)) (v .marks .now) (l .marks) 0 (l .inv .0) (l .block) (c .before .before .before .loop-test .taken) (rw stale) (l .inv .1);
+      judged = broken next anyTwo 2 keep 0 (chainFrom next (length (v .marks .now)) (v .first)) (v .marks .now) (l .marks) 0 (l .inv .0) (l .block) (c .before .before .before .loop-test .taken) (rw has-mark) (l .inv .1);
       stored = λ e. absurd (false≢true e);
     }
 
@@ -53,11 +54,11 @@ module _ (c : tie.Else1 Inv-loop μ-loop) where
   abbrev B : ℕ
   B = c .before .before .before .before .loop .block
 
-  is-fresh : isFresh M B ≡ true
-  is-fresh = sym (c .before .is-fresh .ensures) ∙ not-false _ (c .if1 .left)
+  is-unmarked : isUnmarked M B ≡ true
+  is-unmarked = sym (c .before .is-unmarked .ensures) ∙ not-false _ (c .if1 .left)
 
-  here : Fresh M B
-  here = fresh M B is-fresh
+  here : Unmarked M B
+  here = unmarked-gives M B is-unmarked
 
 sub-marks : tie.Need-sub-marks Inv-loop μ-loop
 sub-marks c = here c .low
@@ -67,8 +68,10 @@ slice-write-marks c = omega (arith, here c)
 
 next-of-requires : tie.Need-next-of-requires Inv-loop μ-loop
 next-of-requires c κs =
+    let v = c .before .before .before .before .before .before .before .args in
     let p = c .before .before .before .before .before .before .before .pre in
-    (here c .low, omega (arith, here c, p .1, c .before .before .before .before .loop .inv .1 .same), p .0)
+    let high : B c ≤ v .shape .blocks = omega (arith, here c, p .1, c .before .before .before .before .loop .inv .1 .same) in
+    (here c .low, high, head-inside (v .table .now) (v .shape) (p .0) (B c) (here c .low) high)
 
 loop-less : tie.Need-loop-less Inv-loop μ-loop
 loop-less c = omega (arith, fewer (M (c .before)) (B (c .before)) 2 (here (c .before)) (omega arith))
@@ -81,7 +84,7 @@ loop-again c =
     let next = nextOf (v .table .now) (v .shape) in (
       l .block,
       rw (c .next-of .ensures)
-          (step next anyTwo 2 keep 0 (chainFrom next (length (v .marks .now)) (v .first)) (v .marks .now) (l .marks) 0 (l .inv .0) (l .block) (d .before .before .before .loop-test .taken) (omega arith) (is-fresh d) refl (l .inv .1)),
+          (step next anyTwo 2 keep 0 (chainFrom next (length (v .marks .now)) (v .first)) (v .marks .now) (l .marks) 0 (l .inv .0) (l .block) (d .before .before .before .loop-test .taken) (omega arith) (is-unmarked d) refl (l .inv .1)),
     )
 
 same-length-2 : tie.Need-same-length-2 Inv-loop μ-loop
@@ -98,14 +101,14 @@ returns-2 c =
       stored = λ _. whole-stored next anyTwo 2 keep 0 whole (v .marks .now) (l .marks) 0 (l .inv .0) (l .block) (c .loop-test .left) (l .inv .1);
     }
 
-pub walk-free-spec : {M : Type 1} → statement M
-walk-free-spec =
+pub follow-free-spec : {M : Type 1} → statement M
+follow-free-spec =
     tie.close
     (tie.spec
     Inv-loop
     μ-loop
     loop-holds
-    is-fresh-requires
+    is-unmarked-requires
     same-length
     returns
     sub-marks
