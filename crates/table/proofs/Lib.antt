@@ -1,8 +1,11 @@
+pub mod GoodChainLaws
 pub mod KeyLaws
 pub mod TallyLaws
 pub mod RecordLaws
 pub mod UsedLaws
 pub mod ChainsLaws
 pub mod CheckLaws
+pub mod OnceLaws
 pub mod RuleLaws
+pub mod UniqueLaws
 pub mod BufferLaws

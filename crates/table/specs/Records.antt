@@ -1,6 +1,8 @@
 -- The records of a table, one after another in chain order. Places count from 0. Definitions only.
-use Prim.Native.Nat.{ℕ, zero, suc}
+use Prim.Native.Nat.{ℕ, zero, suc, _+_}
+use mathlib.Core.Bool.{Bool, cond, _&&_}
 use mathlib.Core.List.{List, [], _∷_, _++_}
+use lib.Dec.{eqb}
 use Rattle.header.specs.declared.Header.{Header}
 use Rattle.blocks.specs.Shape.{shapeOf}
 use Rattle.blocks.specs.Counts.{countIn}
@@ -32,3 +34,12 @@ recordsIn t g (b ∷ bs) = placesFrom b 0 (held (countIn t g b)) ++ recordsIn t 
 -- the records of a table: those of the used blocks, in chain order
 abbrev pub recordsOf : List ℕ → Header → List Position
 recordsOf t h = recordsIn t (shapeOf h) (usedOf t h)
+
+-- whether two records are at one block and place
+abbrev pub isAt : Position → Position → Bool
+isAt p q = eqb (q .block) (p .block) && eqb (q .place) (p .place)
+
+-- how often a record stands in a list
+unfoldable pub comes : Position → List Position → ℕ
+comes p [] = 0
+comes p (q ∷ qs) = cond (isAt p q) 1 0 + comes p qs

@@ -23,3 +23,9 @@ unfoldable pub isLess : Order → Bool
 isLess Less = true
 isLess Same = false
 isLess More = false
+
+-- two ranges are the same
+unfoldable pub isSame : Order → Bool
+isSame Less = false
+isSame Same = true
+isSame More = false

@@ -10,7 +10,7 @@ ghost use mathlib.Core.List.{_++_};
 ghost use Prim.Native.Nat.{_+_, _≤_};
 ghost use lib.ListN.{drop, length};
 ghost use Rattle.words.specs.Numbers.{big, digits, long, word};
-ghost use Rattle.words.specs.Order.{isLess, order, range};
+ghost use Rattle.words.specs.Order.{isLess, isSame, order, range};
 
 // How two ranges of bytes compare.
 pub enum Order {
@@ -27,6 +27,17 @@ impl Order {
         match self {
             Order::Less => true,
             Order::Same => false,
+            Order::More => false,
+        }
+    }
+
+    // Whether two ranges are the same.
+    pub fn is_same(self) -> bool
+        ensures { λ r. ⌜ r ≡ isSame self ⌝ }
+    {
+        match self {
+            Order::Less => false,
+            Order::Same => true,
             Order::More => false,
         }
     }

@@ -1,0 +1,160 @@
+-- What each answer is, for any bytes and any cursor: a refusal hands back the cursor it was given, the end is one with numbers 0, and a
+-- record is one that the table has, behind the cursor that was stepped. Assumes nothing.
+use Prim.Native.Nat.{ℕ, zero, suc, _+_, _-_, _≤_, _<_}
+use mathlib.Core.Path.{_≡_, refl}
+use mathlib.Core.Bool.{Bool, true, false}
+use mathlib.Core.List.{List}
+use mathlib.Core.Logic.{⊎-elim}
+use native.Mathlib.Numerals.{add-one}
+use native.Mathlib.Omega.{arith}
+use lib.Dec.{eqb}
+use borrow.Author.Tests.{eqb-true, eqb-false}
+use Rattle.words.proofs.Cases.{lt-or-ge}
+use Rattle.header.specs.Header.{headerOf}
+use Rattle.blocks.specs.Shape.{shapeOf}
+use Rattle.blocks.specs.Counts.{countIn}
+use Rattle.blocks.specs.declared.Shape.{Shape}
+use Rattle.blocks.specs.declared.count.Count.{Count}
+use Rattle.blocks.specs.declared.count.Count.the-variants.{Records, Bad}
+use Rattle.chain.specs.Links.{nextOf}
+use Rattle.cursor.specs.Cursor.{atEnd, standing, mayEnter, firstFrom, startOf, stepIn, stepOf}
+use Rattle.cursor.specs.Rules.{OnRecord, Answered, found, over, refusing, Behind, next-place, more-moves}
+use Rattle.cursor.specs.declared.Cursor.{Cursor}
+use Rattle.cursor.specs.declared.Step.{Step}
+use Rattle.cursor.specs.declared.Step.the-variants.{Record, End, Refused}
+use Rattle.cursor.proofs.CursorLaws.{enter-block, enter-moves, from-end, from-outside, from-bad, from-record, from-empty, step-outside, step-bad, step-past, step-stays, step-moves, start-refused, start-accepted, step-refused, step-ended, step-goes}
+
+-- ---- what holds of every way in which an answer can come about, holds of the answer
+
+module _ (t : List ℕ) (g : Shape) where
+  -- the first record from a number on, reached after at least so many moves
+  module _ (back : Cursor) (least : ℕ) (Holds : Step → Type 0) (at-end : Holds (End atEnd)) (outside : Holds (Refused 8 back)) (bad : Holds (Refused 9 back))
+      (at-record : (b moves n : ℕ) → least ≤ moves → mayEnter g b moves ≡ true → countIn t g b ≡ Records (suc n) → Holds (Record (standing b 0 moves))) where
+    turn : (moves b : ℕ) → least ≤ moves → (mayEnter g b moves ≡ true → Holds (firstFrom t g back (moves + 1) (nextOf t g b))) → Holds (firstFrom t g back moves b)
+    turn moves b l ih = go (eqb b 0) refl
+      where
+        by-count : (b ≡ 0 → ⊥) → mayEnter g b moves ≡ true → (n : Count) → countIn t g b ≡ n → Holds (firstFrom t g back moves b)
+        by-count ne e Bad k = rw (from-bad t g back moves b ne e k) bad
+        by-count ne e (Records zero) k = rw (from-empty t g back moves b ne e 0 k refl) (ih e)
+        by-count ne e (Records (suc n)) k = rw (from-record t g back moves b ne e (suc n) k (λ z. omega arith)) (at-record b moves n l e k)
+
+        by-entry : (b ≡ 0 → ⊥) → (c : Bool) → mayEnter g b moves ≡ c → Holds (firstFrom t g back moves b)
+        by-entry ne false e = rw (from-outside t g back moves b ne e) outside
+        by-entry ne true e = by-count ne e (countIn t g b) refl
+
+        go : (c : Bool) → eqb b 0 ≡ c → Holds (firstFrom t g back moves b)
+        go true e = rw (from-end t g back moves b (eqb-true b 0 e)) at-end
+        go false e = by-entry (eqb-false b 0 e) (mayEnter g b moves) refl
+
+    -- so many blocks may still be entered
+    within : (left moves b : ℕ) → g .blocks - moves ≡ left → least ≤ moves → Holds (firstFrom t g back moves b)
+    within zero moves b e l = turn moves b l (λ m. absurd (omega (arith, enter-moves g b moves m)))
+    within (suc left) moves b e l = turn moves b l (λ m. within left (moves + 1) (nextOf t g b) (omega arith) (omega arith))
+
+    from-holds : (moves b : ℕ) → least ≤ moves → Holds (firstFrom t g back moves b)
+    from-holds moves b l = within (g .blocks - moves) moves b refl l
+
+  -- the record after that of a cursor which has not ended
+  module _ (c : Cursor) (Holds : Step → Type 0) (unfit : Holds (Refused 13 c)) (bad : Holds (Refused 9 c))
+      (stays : (n : ℕ) → mayEnter g (c .block) (c .moves) ≡ true → countIn t g (c .block) ≡ Records n → c .place + 1 < n → Holds (Record (standing (c .block) (c .place + 1) (c .moves))))
+      (moves : Holds (firstFrom t g c (c .moves + 1) (nextOf t g (c .block)))) where
+    in-holds : Holds (stepIn t g c)
+    in-holds = by-entry (mayEnter g (c .block) (c .moves)) refl
+      where
+        by-place : mayEnter g (c .block) (c .moves) ≡ true → (n : ℕ) → countIn t g (c .block) ≡ Records n → Holds (stepIn t g c)
+        by-place e n k =
+            ⊎-elim
+            (λ (l : c .place < n). ⊎-elim
+            (λ (m : c .place + 1 < n). rw (step-stays t g c e n k m) (stays n e k m))
+            (λ (m : n ≤ c .place + 1). rw (step-moves t g c e n k l m) moves)
+            (lt-or-ge (c .place + 1) n))
+            (λ (l : n ≤ c .place). rw (step-past t g c e n k l) unfit)
+            (lt-or-ge (c .place) n)
+
+        by-count : mayEnter g (c .block) (c .moves) ≡ true → (n : Count) → countIn t g (c .block) ≡ n → Holds (stepIn t g c)
+        by-count e Bad k = rw (step-bad t g c e k) bad
+        by-count e (Records n) k = by-place e n k
+
+        by-entry : (b : Bool) → mayEnter g (c .block) (c .moves) ≡ b → Holds (stepIn t g c)
+        by-entry false e = rw (step-outside t g c e) unfit
+        by-entry true e = by-count e (countIn t g (c .block)) refl
+
+-- 1 to 7 come first
+module _ (t : List ℕ) (Holds : Step → Type 0) where
+  start-holds : ((n : ℕ) → 1 ≤ n → Holds (Refused n atEnd)) → Holds (firstFrom t (shapeOf (headerOf t)) atEnd 0 (headerOf t .first)) → Holds (startOf t)
+  start-holds refused from = go (eqb (headerOf t .refusal) 0) refl
+    where
+      go : (b : Bool) → eqb (headerOf t .refusal) 0 ≡ b → Holds (startOf t)
+      go true e = rw (start-accepted t (eqb-true (headerOf t .refusal) 0 e)) from
+      go false e = let ne = eqb-false (headerOf t .refusal) 0 e in rw (start-refused t ne) (refused (headerOf t .refusal) (omega arith))
+
+  step-holds : (c : Cursor) → ((n : ℕ) → 1 ≤ n → Holds (Refused n c)) → Holds (End atEnd) → Holds (stepIn t (shapeOf (headerOf t)) c) → Holds (stepOf t c)
+  step-holds c refused at-end goes = go (eqb (headerOf t .refusal) 0) refl
+    where
+      by-end : headerOf t .refusal ≡ 0 → (b : Bool) → c .ended ≡ b → Holds (stepOf t c)
+      by-end e true f = rw (step-ended t c e f) at-end
+      by-end e false f = rw (step-goes t c e f) goes
+
+      go : (b : Bool) → eqb (headerOf t .refusal) 0 ≡ b → Holds (stepOf t c)
+      go true e = by-end (eqb-true (headerOf t .refusal) 0 e) (c .ended) refl
+      go false e = let ne = eqb-false (headerOf t .refusal) 0 e in rw (step-refused t c ne) (refused (headerOf t .refusal) (omega arith))
+
+-- ---- an answer is a record, the end, or a refusal
+
+module _ (t : List ℕ) (g : Shape) where
+  -- a record in a block that may be entered
+  on-record : (b place moves : ℕ) → mayEnter g b moves ≡ true → (n : ℕ) → countIn t g b ≡ Records n → place < n → OnRecord t g (standing b place moves)
+  on-record b place moves e n k l =
+      record {
+        going = refl;
+        low = enter-block g b moves e .0;
+        high = enter-block g b moves e .1;
+        few-moves = enter-moves g b moves e;
+        count = n;
+        counted = k;
+        there = l;
+      }
+
+  from-answers : (back : Cursor) (moves b : ℕ) → Answered t g back (firstFrom t g back moves b)
+  from-answers back moves b =
+      from-holds t g back 0 (Answered t g back) over (refusing {n = 8} (omega arith)) (refusing {n = 9} (omega arith))
+      (λ b m n l e k. found (on-record b 0 m e (suc n) k (omega arith)))
+      moves b (omega arith)
+
+pub start-answers : (t : List ℕ) → Answered t (shapeOf (headerOf t)) atEnd (startOf t)
+start-answers t =
+    let g = shapeOf (headerOf t) in
+    start-holds t (Answered t g atEnd) (λ n l. refusing l) (from-answers t g atEnd 0 (headerOf t .first))
+
+pub step-answers : (t : List ℕ) (c : Cursor) → Answered t (shapeOf (headerOf t)) c (stepOf t c)
+step-answers t c =
+    let g = shapeOf (headerOf t) in
+    step-holds t (Answered t g c) c (λ n l. refusing l) over
+    (in-holds t g c (Answered t g c) (refusing {n = 13} (omega arith)) (refusing {n = 9} (omega arith))
+    (λ n e k m. found (on-record t g (c .block) (c .place + 1) (c .moves) e n k m))
+    (from-answers t g c (c .moves + 1) (nextOf t g (c .block))))
+
+-- ---- a record comes behind the one before it, so that stepping ends on any bytes
+
+-- where an answer is a record, it is behind the cursor
+abbrev Later : Cursor → Step → Type 0
+Later c s = (d : Cursor) → s ≡ Record d → Behind c d
+
+no-record-at-end : (c k : Cursor) → Later c (End k)
+no-record-at-end c k d e = let z : _≡_ {A = ℕ} 0 1 = cc in absurd (omega arith)
+
+no-record-refused : (c : Cursor) (n : ℕ) (k : Cursor) → Later c (Refused n k)
+no-record-refused c n k d e = let z : _≡_ {A = ℕ} 0 1 = cc in absurd (omega arith)
+
+record-is : (c d : Cursor) → Record c ≡ Record d → c ≡ d
+record-is c d e = cc
+
+pub step-behind : (t : List ℕ) (c d : Cursor) → stepOf t c ≡ Record d → Behind c d
+step-behind t c =
+    let g = shapeOf (headerOf t) in
+    step-holds t (Later c) c (λ n l. no-record-refused c n c) (no-record-at-end c atEnd)
+    (in-holds t g c (Later c) (no-record-refused c 13 c) (no-record-refused c 9 c)
+    (λ n e k m d f. rw (← (record-is (standing (c .block) (c .place + 1) (c .moves)) d f)) (next-place refl refl (add-one (c .place))))
+    (from-holds t g c (c .moves + 1) (Later c) (no-record-at-end c atEnd) (no-record-refused c 8 c) (no-record-refused c 9 c)
+    (λ b m n l e k d f. rw (← (record-is (standing b 0 m) d f)) (more-moves (omega arith)))
+    (c .moves + 1) (nextOf t g (c .block)) (omega arith)))

@@ -1,0 +1,99 @@
+-- Records, one after another: what starting and stepping a cursor answer, for any bytes and any cursor. Definitions only.
+use Prim.Native.Nat.{ℕ, zero, suc, _-_}
+use mathlib.Core.Bool.{Bool, true, false, cond, _&&_}
+use mathlib.Core.List.{List}
+use lib.Dec.{eqb, ltb}
+use Rattle.header.specs.Refusals.{chainRule, wrongCount, badArgument}
+use Rattle.header.specs.Header.{headerOf}
+use Rattle.header.specs.declared.Header.{Header}
+use Rattle.blocks.specs.Shape.{shapeOf, hasBlock}
+use Rattle.blocks.specs.Counts.{countIn}
+use Rattle.blocks.specs.declared.Shape.{Shape}
+use Rattle.blocks.specs.declared.count.Count.{Count}
+use Rattle.blocks.specs.declared.count.Count.the-variants.{Records, Bad}
+use Rattle.chain.specs.Links.{nextOf}
+use Rattle.cursor.specs.declared.Cursor.{Cursor}
+use Rattle.cursor.specs.declared.Step.{Step}
+use Rattle.cursor.specs.declared.Step.the-variants.{Record, End, Refused}
+
+-- ---- the answer
+
+-- an ended cursor, its numbers 0
+unfoldable pub atEnd : Cursor
+atEnd = record { block = 0; place = 0; moves = 0; ended = true }
+
+-- a cursor on the record at a place of block b, after so many moves
+abbrev pub standing : ℕ → ℕ → ℕ → Cursor
+standing b place moves = record { block = b; place = place; moves = moves; ended = false }
+
+-- an answer as document 01's number and cursor: 0 with a record or the end, or a refusal's number
+unfoldable pub numbersOf : Step → ℕ × Cursor
+numbersOf (Record c) = (0, c)
+numbersOf (End c) = (0, c)
+numbersOf (Refused n c) = (n, c)
+
+-- ---- the first record from a block on
+
+-- the file has block b, and so many moves are at most the blocks in file less 1
+unfoldable pub mayEnter : Shape → ℕ → ℕ → Bool
+mayEnter g b moves = hasBlock g b && ltb moves (g .blocks)
+
+-- block b by its count, reached after so many moves: its first record; 9 for a bad count; one without records is passed over, and
+-- what comes behind it is the answer. A refusal hands `back` back
+unfoldable pub firstIn : Cursor → ℕ → ℕ → Count → Step → Step
+firstIn back b moves (Records zero) behind = behind
+firstIn back b moves (Records (suc n)) behind = Record (standing b 0 moves)
+firstIn back b moves Bad behind = Refused wrongCount back
+
+-- from number b on, where `left` blocks may still be entered: 0 is the end; 8 for a number out of range, and for a move too many.
+-- To the next block it is one move more
+unfoldable pub firstWithin : List ℕ → Shape → Cursor → ℕ → ℕ → ℕ → Step
+firstWithin t g back zero moves b = cond (eqb b 0) (End atEnd) (Refused chainRule back)
+firstWithin t g back (suc left) moves b =
+    cond (eqb b 0) (End atEnd)
+    (cond (hasBlock g b)
+    (firstIn back b moves (countIn t g b) (firstWithin t g back left (suc moves) (nextOf t g b)))
+    (Refused chainRule back))
+
+-- from number b on, reached after so many moves. At most blocks - 1 moves are made, so blocks - moves blocks may be entered
+unfoldable pub firstFrom : List ℕ → Shape → Cursor → ℕ → ℕ → Step
+firstFrom t g back moves b = firstWithin t g back (g .blocks - moves) moves b
+
+-- ---- starting: 1 to 7, then the first block, for which no move is counted. A refusal gives an ended cursor
+
+unfoldable pub startIn : List ℕ → Header → Step
+startIn t h = firstFrom t (shapeOf h) atEnd 0 (h .first)
+
+unfoldable pub startOf : List ℕ → Step
+startOf t = cond (eqb (headerOf t .refusal) 0) (startIn t (headerOf t)) (Refused (headerOf t .refusal) atEnd)
+
+-- ---- stepping: 1 to 7, then 13, 9, 13 for the cursor itself, then the next record. A refusal hands the same cursor back
+
+-- the record behind that of the cursor, by its block's count: in its block, or from the next number on; 13 for no such place
+unfoldable pub stepWith : List ℕ → Shape → Cursor → Count → Step
+stepWith t g c Bad = Refused wrongCount c
+stepWith t g c (Records n) =
+    cond (ltb (c .place) n)
+    (cond (ltb (suc (c .place)) n)
+    (Record (standing (c .block) (suc (c .place)) (c .moves)))
+    (firstFrom t g c (suc (c .moves)) (nextOf t g (c .block))))
+    (Refused badArgument c)
+
+-- 13 for a block outside the file or more than blocks - 1 moves
+unfoldable pub stepIn : List ℕ → Shape → Cursor → Step
+stepIn t g c = cond (mayEnter g (c .block) (c .moves)) (stepWith t g c (countIn t g (c .block))) (Refused badArgument c)
+
+-- a cursor that has ended stays so, and its numbers become 0
+unfoldable pub stepOf : List ℕ → Cursor → Step
+stepOf t c =
+    cond (eqb (headerOf t .refusal) 0)
+    (cond (c .ended) (End atEnd) (stepIn t (shapeOf (headerOf t)) c))
+    (Refused (headerOf t .refusal) c)
+
+-- ---- both as document 01's number and cursor
+
+unfoldable pub startNumbers : List ℕ → ℕ × Cursor
+startNumbers t = numbersOf (startOf t)
+
+unfoldable pub stepNumbers : List ℕ → Cursor → ℕ × Cursor
+stepNumbers t c = numbersOf (stepOf t c)

@@ -1,0 +1,48 @@
+-- What starting and stepping come to, as plain propositions. Definitions only.
+use Prim.Native.Nat.{ℕ, suc, _≤_, _<_}
+use mathlib.Core.Path.{_≡_}
+use mathlib.Core.Bool.{false}
+use mathlib.Core.List.{List, [], _∷_}
+use Rattle.blocks.specs.Counts.{countIn}
+use Rattle.blocks.specs.declared.Shape.{Shape}
+use Rattle.blocks.specs.declared.count.Count.the-variants.{Records}
+use Rattle.table.specs.Records.{Position}
+use Rattle.cursor.specs.Cursor.{atEnd, stepOf}
+use Rattle.cursor.specs.declared.Cursor.{Cursor}
+use Rattle.cursor.specs.declared.Step.{Step}
+use Rattle.cursor.specs.declared.Step.the-variants.{Record, End, Refused}
+
+-- ---- one answer, of any bytes
+
+-- a cursor on a record: its block is in the file and counts more records than its place, and its moves are at most blocks - 1. So no
+-- step from it is refused with 13, nor with 9 for its own block
+pub record OnRecord (t : List ℕ) (g : Shape) (c : Cursor) : Type 0 where
+  pub going : c .ended ≡ false
+  pub low : 1 ≤ c .block
+  pub high : c .block ≤ g .blocks
+  pub few-moves : c .moves < g .blocks
+  pub count : ℕ
+  pub counted : countIn t g (c .block) ≡ Records count
+  pub there : c .place < count
+
+-- an answer is a cursor on a record, the end with numbers 0, or a refusal with the cursor that is to be handed back
+pub data Answered (t : List ℕ) (g : Shape) (back : Cursor) : Step → Type 0 where
+  found : {c : Cursor} → OnRecord t g c → Answered t g back (Record c)
+  over : Answered t g back (End atEnd)
+  refusing : {n : ℕ} → 1 ≤ n → Answered t g back (Refused n back)
+
+-- cursor d is behind cursor c: at the next place of the same block, or more moves on
+pub data Behind (c d : Cursor) : Type 0 where
+  next-place : d .block ≡ c .block → d .moves ≡ c .moves → d .place ≡ suc (c .place) → Behind c d
+  more-moves : c .moves < d .moves → Behind c d
+
+-- ---- all answers, of an accepted table
+
+-- where the record of a cursor is
+abbrev pub positionOf : Cursor → Position
+positionOf c = record { block = c .block; place = c .place }
+
+-- from an answer on, stepping gives these records in this order and then the end, and no answer is a refusal
+pub data Gives (t : List ℕ) : Step → List Position → Type 0 where
+  none : Gives t (End atEnd) []
+  one : {c : Cursor} {ps : List Position} → Gives t (stepOf t c) ps → Gives t (Record c) (positionOf c ∷ ps)

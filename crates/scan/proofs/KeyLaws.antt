@@ -1,0 +1,142 @@
+-- The scan of an accepted table is absent exactly when no record has the key, and what it finds is the only record that has it.
+-- Assumes nothing.
+use Prim.Native.Nat.{ℕ, zero, suc, _<_}
+use mathlib.Core.Path.{_≡_, refl, sym, ap, subst, _∙_}
+use mathlib.Core.Bool.{Bool, true, false, cond, false≢true}
+use mathlib.Core.List.{List, [], _∷_}
+use native.Mathlib.Nat.{not-suc-le-zero, le-of-suc-le-suc}
+use native.Mathlib.Omega.{arith}
+use lib.ListN.{length, getD}
+use Rattle.words.specs.Order.{isSame, order}
+use Rattle.words.specs.declared.Order.{Order}
+use Rattle.words.specs.declared.Order.the-variants.{Less, Same, More}
+use Rattle.words.proofs.OrderLaws.{order-refl, order-same}
+use Rattle.header.specs.Header.{headerOf}
+use Rattle.header.specs.declared.Header.{Header}
+use Rattle.blocks.specs.Shape.{shapeOf}
+use Rattle.blocks.specs.declared.Shape.{Shape}
+use Rattle.table.specs.Records.{Position, recordsOf}
+use Rattle.table.specs.Keys.{keyAt}
+use Rattle.table.specs.Table.{tableAnswer}
+use Rattle.table.proofs.RuleLaws.{accepted-table}
+use Rattle.table.proofs.UniqueLaws.{any-default, key-once}
+use Rattle.scan.specs.Scan.{firstWith, keyFits, scanOf}
+use Rattle.scan.specs.Rules.{HasKey}
+use Rattle.scan.specs.declared.found.Found.{Found}
+use Rattle.scan.specs.declared.found.Found.the-variants.{At, Absent, Refused}
+use Rattle.scan.proofs.FirstLaws.{hasKey}
+use Rattle.scan.proofs.ScanLaws.{fits-gives, scan-first}
+
+-- ---- the test of a key is its equality
+
+is-same : (o : Order) → isSame o ≡ true → o ≡ Same
+unfolding isSame
+is-same Less e = absurd (false≢true e)
+is-same Same e = refl
+is-same More e = absurd (false≢true e)
+
+module _ (t : List ℕ) (g : Shape) (key : List ℕ) where
+  key-gives : (p : Position) → hasKey t g key p ≡ true → keyAt t g (length key) p ≡ key
+  key-gives p e = order-same (keyAt t g (length key) p) key (is-same (order (keyAt t g (length key) p) key) e)
+
+  key-takes : (p : Position) → keyAt t g (length key) p ≡ key → hasKey t g key p ≡ true
+  unfolding isSame
+  key-takes p e = rw (e, order-refl)
+
+  -- ---- what the first of some records with the key is
+
+  -- the one at an index has the key and is the answer, or none has it
+  data Looked (ps : List Position) (r : Found) : Type 0 where
+    finds : (p : Position) (i : ℕ) → i < length ps → getD ps i p ≡ p → keyAt t g (length key) p ≡ key → r ≡ At (p .block) (p .place) → Looked ps r
+    misses : ((i : ℕ) (d : Position) → i < length ps → keyAt t g (length key) (getD ps i d) ≡ key → ⊥) → r ≡ Absent → Looked ps r
+
+  later : (p : Position) (ps : List Position) (r : Found) → hasKey t g key p ≡ false → Looked ps r → Looked (p ∷ ps) r
+  later p ps r e (finds q i l there same at) = finds q (suc i) (omega arith) there same at
+  later p ps r e (misses h none) = misses go none
+    where
+      go : (i : ℕ) (d : Position) → i < length (p ∷ ps) → keyAt t g (length key) (getD (p ∷ ps) i d) ≡ key → ⊥
+      go zero d l k = false≢true (sym e ∙ key-takes p k)
+      go (suc i) d l k = h i d (le-of-suc-le-suc l) k
+
+  looked : (ps : List Position) → Looked ps (firstWith t g key ps)
+  unfolding firstWith
+  looked [] = misses (λ i d l k. absurd (not-suc-le-zero l)) refl
+  looked (p ∷ ps) = go (hasKey t g key p) refl (looked ps)
+    where
+      go : (c : Bool) → hasKey t g key p ≡ c → Looked ps (firstWith t g key ps) → Looked (p ∷ ps) (cond c (At (p .block) (p .place)) (firstWith t g key ps))
+      go true e w = finds p 0 (omega arith) refl (key-gives p e) refl
+      go false e w = later p ps (firstWith t g key ps) e w
+
+-- ---- the scan of an accepted table, for a key of its key length
+
+module _ (t key : List ℕ) (room : ℕ) (e : tableAnswer t room ≡ 0) (f : keyFits (headerOf t) key ≡ true) where
+  abbrev h : Header
+  h = headerOf t
+
+  -- what the scan came to: the one record with the key, or that there is none
+  data Scanned (r : Found) : Type 0 where
+    record-found : (p : Position) → HasKey t h key p → r ≡ At (p .block) (p .place) → Scanned r
+    none-found : ((p : Position) → HasKey t h key p → ⊥) → r ≡ Absent → Scanned r
+
+  scanned : Scanned (scanOf t key room)
+  scanned = go (looked t (shapeOf h) key (recordsOf t h))
+    where
+      size : length key ≡ h .key
+      size = fits-gives h key f .1
+
+      first : scanOf t key room ≡ firstWith t (shapeOf h) key (recordsOf t h)
+      first = scan-first t key room e f
+
+      go : Looked t (shapeOf h) key (recordsOf t h) (firstWith t (shapeOf h) key (recordsOf t h)) → Scanned (scanOf t key room)
+      go (finds p i l there same at) = record-found p (record { index = i; inside = l; there = there; same = subst (λ (n : ℕ). keyAt t (shapeOf h) n p ≡ key) size same }) (first ∙ at)
+      go (misses none at) =
+          none-found
+          (λ p k. none (k .index) p (k .inside) (rw (k .there) (subst (λ (n : ℕ). keyAt t (shapeOf h) n p ≡ key) (sym size) (k .same))))
+          (first ∙ at)
+
+  -- records with the key are one record
+  pub one-record : (p q : Position) → HasKey t h key p → HasKey t h key q → p ≡ q
+  one-record p q k l =
+      let i : k .index ≡ l .index = key-once t h (accepted-table t room e) (fits-gives h key f .0) (k .index) (l .index) p q (k .inside) (l .inside) (rw (k .there, l .there) (k .same ∙ sym (l .same))) in
+      sym (k .there)
+      ∙ any-default (recordsOf t h) (k .index) p q (k .inside)
+      ∙ ap (λ (n : ℕ). getD (recordsOf t h) n q) i
+      ∙ l .there
+
+  -- it is not refused
+  pub scan-answers : (n : ℕ) → scanOf t key room ≡ Refused n → ⊥
+  scan-answers n r = go scanned
+    where
+      go : Scanned (scanOf t key room) → ⊥
+      go (record-found p k at) = let z : _≡_ {A = ℕ} 0 1 = cc in omega arith
+      go (none-found none at) = let z : _≡_ {A = ℕ} 0 1 = cc in omega arith
+
+  -- absent exactly when no record has the key
+  pub absent-gives : scanOf t key room ≡ Absent → (p : Position) → HasKey t h key p → ⊥
+  absent-gives r p l = go scanned
+    where
+      go : Scanned (scanOf t key room) → ⊥
+      go (record-found q k at) = let z : _≡_ {A = ℕ} 0 1 = cc in omega arith
+      go (none-found none at) = none p l
+
+  pub absent-takes : ((p : Position) → HasKey t h key p → ⊥) → scanOf t key room ≡ Absent
+  absent-takes none = go scanned
+    where
+      go : Scanned (scanOf t key room) → scanOf t key room ≡ Absent
+      go (record-found q k at) = absurd (none q k)
+      go (none-found _ at) = at
+
+  -- found at a block and place exactly when the record there has the key
+  pub found-gives : (p : Position) → scanOf t key room ≡ At (p .block) (p .place) → HasKey t h key p
+  found-gives p r = go scanned
+    where
+      go : Scanned (scanOf t key room) → HasKey t h key p
+      go (record-found q k at) = let b : p .block ≡ q .block = cc in let i : p .place ≡ q .place = cc in rw (b, i) k
+      go (none-found none at) = let z : _≡_ {A = ℕ} 0 1 = cc in absurd (omega arith)
+
+  pub found-takes : (p : Position) → HasKey t h key p → scanOf t key room ≡ At (p .block) (p .place)
+  found-takes p l = go scanned
+    where
+      go : Scanned (scanOf t key room) → scanOf t key room ≡ At (p .block) (p .place)
+      go (record-found q k at) = at ∙ rw (one-record q p k l)
+      go (none-found none at) = absurd (none p l)

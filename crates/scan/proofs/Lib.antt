@@ -1,0 +1,4 @@
+pub mod FirstLaws
+pub mod ChainLaws
+pub mod ScanLaws
+pub mod KeyLaws

@@ -1,0 +1,4 @@
+pub mod Found
+pub mod Scan
+pub mod Rules
+pub mod Steps
