@@ -1,6 +1,6 @@
 -- Over an accepted table stepping from the start gives every record, in chain order, and then the end. Assumes nothing.
 use Prim.Native.Nat.{ℕ, zero, suc, _+_, _≤_}
-use mathlib.Core.Path.{_≡_, refl}
+use mathlib.Core.Path.{_≡_, refl, ap}
 use mathlib.Core.Bool.{true}
 use mathlib.Core.List.{List, [], _∷_, _++_}
 use native.Mathlib.Nat.{zero-add}
@@ -20,9 +20,10 @@ use Rattle.table.specs.Table.{tableAnswer}
 use Rattle.table.specs.Rules.{GoodChain}
 use Rattle.table.proofs.GoodChainLaws.{Block, good-begins, good-none, good-some}
 use Rattle.table.proofs.RuleLaws.{table-gives, accepted-table}
-use Rattle.cursor.specs.Cursor.{atEnd, standing, mayEnter, firstFrom, startOf}
-use Rattle.cursor.specs.Rules.{Gives, none, one}
+use Rattle.cursor.specs.Cursor.{atEnd, standing, mayEnter, firstFrom, startOf, stepOf}
+use Rattle.cursor.specs.Rules.{positionOf, Gives, none, one}
 use Rattle.cursor.specs.declared.Cursor.{Cursor}
+use Rattle.cursor.specs.declared.Step.{Step}
 use Rattle.cursor.specs.declared.Step.the-variants.{Record}
 use Rattle.cursor.proofs.CursorLaws.{may-enter, from-end, from-record, from-empty, step-stays, step-moves, start-accepted, step-goes}
 
@@ -60,6 +61,12 @@ module _ (t : List ℕ) (zero-number : headerOf t .refusal ≡ 0) where
           go : (n : ℕ) → countIn t g x ≡ Records n → Gives t (firstFrom t g back moves x) (placesFrom x 0 n ++ recordsIn t g bs)
           go zero k = rw (from-empty t g back moves x ne e 0 k refl) (behind back)
           go (suc n) k = rw (from-record t g back moves x ne e (suc n) k (λ z. omega arith)) (places-give x moves (suc n) e k (recordsIn t g bs) behind n 0 (zero-add (suc n)))
+
+-- ---- what stepping gives is determined
+
+pub gives-only : (t : List ℕ) (s : Step) (ps qs : List Position) → Gives t s ps → Gives t s qs → ps ≡ qs
+gives-only t s ps qs none none = refl
+gives-only t s ps qs (one {c = c} {ps = us} g) (one {ps = vs} k) = ap (λ (r : List Position). positionOf c ∷ r) (gives-only t (stepOf t c) us vs g k)
 
 -- over an accepted table every record comes, in chain order, and then the end; nothing is refused
 pub stepping : (t : List ℕ) (room : ℕ) → tableAnswer t room ≡ 0 → Gives t (startOf t) (recordsOf t (headerOf t))

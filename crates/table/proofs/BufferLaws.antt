@@ -12,7 +12,7 @@ use Rattle.chain.specs.Marks.{marksOf}
 use Rattle.table.specs.Counts.{countsRight, sumFits}
 use Rattle.table.specs.Keys.{keysAscend}
 use Rattle.table.specs.Table.{tableChained, rulesAnswer, blocksAnswer, tableAnswer, blockMarks, bufferAfter, tableMarks}
-use Rattle.table.specs.Rules.{MarksLeft, by-header, by-buffer, by-chains, by-counts, by-sum, by-keys, accepting}
+use Rattle.table.specs.Rules.{noted, MarksLeft, by-header, by-buffer, by-chains, by-counts, by-sum, by-keys, accepting}
 
 module _ (t m : List ℕ) where
   -- 8, 9, 16, 10, by the tests of the rules
@@ -43,3 +43,16 @@ module _ (t m : List ℕ) where
       by-number (h .refusal) (blocksAnswer t h (length m)) (bufferAfter t h m) refl
       (by-room (leb (h .blocks) (length m)) (rulesAnswer t h) (blockMarks t h ++ drop (h .blocks) m)
       (by-rules (tableChained t h) (countsRight t h (usedOf t h)) (sumFits t h (usedOf t h)) (keysAscend t h (usedOf t h))))
+
+  -- an accepted table's marks: 1 for a used block and 2 for a free one. A later answer of a call that ran the check leaves them so
+  pub accepted-marks : tableAnswer t (length m) ≡ 0 → tableMarks t m ≡ noted t m
+  accepted-marks e = go (tableAnswer t (length m)) (tableMarks t m) e marks-left
+    where
+      go : (a : ℕ) (marks : List ℕ) → a ≡ 0 → MarksLeft t m a marks → marks ≡ noted t m
+      go a marks z (by-header r l) = absurd (omega arith)
+      go a marks z by-buffer = absurd (omega arith)
+      go a marks z by-chains = absurd (omega arith)
+      go a marks z by-counts = absurd (omega arith)
+      go a marks z by-sum = absurd (omega arith)
+      go a marks z by-keys = absurd (omega arith)
+      go a marks z accepting = refl
