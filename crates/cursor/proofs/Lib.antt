@@ -1,3 +1,4 @@
 pub mod CursorLaws
 pub mod AnswerLaws
+pub mod Ending
 pub mod Stepping

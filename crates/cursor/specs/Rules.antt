@@ -36,6 +36,14 @@ pub data Behind (c d : Cursor) : Type 0 where
   next-place : d .block ≡ c .block → d .moves ≡ c .moves → d .place ≡ suc (c .place) → Behind c d
   more-moves : c .moves < d .moves → Behind c d
 
+-- ---- all answers, of any bytes
+
+-- from an answer on, stepping comes to one that is no record
+pub data Ends (t : List ℕ) : Step → Type 0 where
+  no-record : {c : Cursor} → Ends t (End c)
+  no-answer : {n : ℕ} {c : Cursor} → Ends t (Refused n c)
+  a-record : {c : Cursor} → Ends t (stepOf t c) → Ends t (Record c)
+
 -- ---- all answers, of an accepted table
 
 -- where the record of a cursor is

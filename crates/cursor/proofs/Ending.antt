@@ -1,0 +1,71 @@
+-- Stepping ends, on any bytes and from any cursor: a record comes at a later place of its block or after more moves, and there are no
+-- more places than a block has bytes, and fewer moves than blocks. Assumes nothing.
+use Prim.Native.Nat.{ℕ, zero, suc, _-_, _≤_, _<_}
+use mathlib.Core.Path.{_≡_, refl}
+use mathlib.Core.Bool.{Bool, true, false}
+use mathlib.Core.List.{List}
+use native.Mathlib.Omega.{arith}
+use lib.Dec.{eqb}
+use borrow.Author.Tests.{eqb-true, eqb-false}
+use Rattle.header.specs.Header.{headerOf}
+use Rattle.header.proofs.AcceptedLaws.{accepted}
+use Rattle.blocks.specs.Shape.{shapeOf, Sound}
+use Rattle.blocks.specs.declared.Shape.{Shape}
+use Rattle.blocks.proofs.ShapeLaws.{sound}
+use Rattle.blocks.proofs.CountLaws.{count-few}
+use Rattle.cursor.specs.Cursor.{atEnd, startOf, stepOf}
+use Rattle.cursor.specs.Rules.{OnRecord, Answered, found, Behind, next-place, more-moves, Ends, no-record, no-answer, a-record}
+use Rattle.cursor.specs.declared.Cursor.{Cursor}
+use Rattle.cursor.specs.declared.Step.{Step}
+use Rattle.cursor.specs.declared.Step.the-variants.{Record, End, Refused}
+use Rattle.cursor.proofs.AnswerLaws.{start-answers, step-answers, step-behind}
+use Rattle.cursor.proofs.CursorLaws.{start-refused, step-refused}
+
+module _ (t : List ℕ) where
+  abbrev g : Shape
+  g = shapeOf (headerOf t)
+
+  -- an answer ends where every record that it may be does
+  answer-ends : (back : Cursor) (s : Step) → Answered t g back s → ((d : Cursor) → s ≡ Record d → OnRecord t g d → Ends t (Record d)) → Ends t s
+  answer-ends back (Record c) (found r) h = h c refl r
+  answer-ends back (End c) a h = no-record
+  answer-ends back (Refused n c) a h = no-answer
+
+  module _ (w : Sound t g) where
+    -- a place is below the block's size
+    place-below : (c : Cursor) → OnRecord t g c → c .place < g .block
+    place-below c r = omega (arith, r .there, count-few t g w (c .block) (r .count) (r .counted))
+
+    -- from a cursor on a record, where stepping ends after more moves than its own
+    in-block : (later : ℕ) → ((d : Cursor) → OnRecord t g d → later ≤ d .moves → Ends t (Record d))
+        → (left : ℕ) (c : Cursor) → OnRecord t g c → suc (c .moves) ≡ later → g .block - c .place ≤ left → Ends t (Record c)
+    in-block later ih zero c r e l = absurd (omega (arith, place-below c r))
+    in-block later ih (suc left) c r e l =
+        a-record (answer-ends c (stepOf t c) (step-answers t c) (λ d s q. go d q (step-behind t c d s) (in-block later ih left d q)))
+      where
+        go : (d : Cursor) → OnRecord t g d → Behind c d → (suc (d .moves) ≡ later → g .block - d .place ≤ left → Ends t (Record d)) → Ends t (Record d)
+        go d q (next-place b m p) stays = stays (omega arith) (omega (arith, place-below c r))
+        go d q (more-moves m) stays = ih d q (omega arith)
+
+    -- from a cursor on a record, by how many moves are left
+    by-moves : (left : ℕ) (c : Cursor) → OnRecord t g c → g .blocks - c .moves ≤ left → Ends t (Record c)
+    by-moves zero c r l = absurd (omega (arith, r .few-moves))
+    by-moves (suc left) c r l =
+        in-block (suc (c .moves)) (λ d q m. by-moves left d q (omega (arith, r .few-moves, q .few-moves))) (g .block - c .place) c r refl (omega arith)
+
+    record-ends : (d : Cursor) → OnRecord t g d → Ends t (Record d)
+    record-ends d r = by-moves (g .blocks - d .moves) d r (omega arith)
+
+  pub start-ends : Ends t (startOf t)
+  start-ends = go (eqb (headerOf t .refusal) 0) refl
+    where
+      go : (b : Bool) → eqb (headerOf t .refusal) 0 ≡ b → Ends t (startOf t)
+      go true e = answer-ends atEnd (startOf t) (start-answers t) (λ d s r. record-ends (sound t (headerOf t) (accepted t (eqb-true (headerOf t .refusal) 0 e))) d r)
+      go false e = rw (start-refused t (eqb-false (headerOf t .refusal) 0 e)) no-answer
+
+  pub step-ends : (c : Cursor) → Ends t (stepOf t c)
+  step-ends c = go (eqb (headerOf t .refusal) 0) refl
+    where
+      go : (b : Bool) → eqb (headerOf t .refusal) 0 ≡ b → Ends t (stepOf t c)
+      go true e = answer-ends c (stepOf t c) (step-answers t c) (λ d s r. record-ends (sound t (headerOf t) (accepted t (eqb-true (headerOf t .refusal) 0 e))) d r)
+      go false e = rw (step-refused t c (eqb-false (headerOf t .refusal) 0 e)) no-answer
