@@ -15,27 +15,27 @@ use Rattle.blocks.specs.declared.Shape.{Shape}
 use Rattle.blocks.specs.declared.count.Count.the-variants.{Records, Bad}
 use Rattle.blocks.proofs.ShapeLaws.{file-has, has-block}
 use Rattle.chain.specs.Links.{nextOf}
-use Rattle.cursor.specs.Cursor.{atEnd, standing, numbersOf, mayEnter, firstIn, firstWithin, firstFrom, startIn, startOf, stepWith, stepIn, stepOf, startNumbers, stepNumbers}
+use Rattle.cursor.specs.Cursor.{atEnd, standing, numbersOf, inReach, firstIn, firstWithin, firstFrom, startIn, startOf, stepWith, stepIn, stepOf, startNumbers, stepNumbers}
 use Rattle.cursor.specs.declared.Cursor.{Cursor}
 use Rattle.cursor.specs.declared.Step.{Step}
 use Rattle.cursor.specs.declared.Step.the-variants.{Record, End, Refused}
 
--- ---- a block that may be entered is in the file, and its move is not too many
+-- ---- a block in reach is in the file, and its move is not too many
 
-module _ (g : Shape) (b moves : ℕ) (e : mayEnter g b moves ≡ true) where
+module _ (g : Shape) (b moves : ℕ) (e : inReach g b moves ≡ true) where
   parts : (hasBlock g b ≡ true) × (ltb moves (g .blocks) ≡ true)
-  unfolding mayEnter
+  unfolding inReach
   parts = both {a = hasBlock g b} {b = ltb moves (g .blocks)} e
 
-  pub enter-block : (1 ≤ b) × (b ≤ g .blocks)
-  enter-block = has-block g b (parts .0)
+  pub reach-block : (1 ≤ b) × (b ≤ g .blocks)
+  reach-block = has-block g b (parts .0)
 
-  pub enter-moves : moves < g .blocks
-  enter-moves = ltb-true moves (g .blocks) (parts .1)
+  pub reach-moves : moves < g .blocks
+  reach-moves = ltb-true moves (g .blocks) (parts .1)
 
-pub may-enter : (g : Shape) (b moves : ℕ) → 1 ≤ b → b ≤ g .blocks → moves < g .blocks → mayEnter g b moves ≡ true
-unfolding mayEnter hasBlock
-may-enter g b moves low high few = join (file-has (g .blocks) b low high) (lt-ltb moves (g .blocks) few)
+pub in-reach : (g : Shape) (b moves : ℕ) → 1 ≤ b → b ≤ g .blocks → moves < g .blocks → inReach g b moves ≡ true
+unfolding inReach hasBlock
+in-reach g b moves low high few = join (file-has (g .blocks) b low high) (lt-ltb moves (g .blocks) few)
 
 -- ---- the first record from number b on
 
@@ -48,25 +48,21 @@ module _ (t : List ℕ) (g : Shape) (back : Cursor) (moves b : ℕ) where
       go zero = rw (eq-eqb b 0 e)
       go (suc left) = rw (eq-eqb b 0 e)
 
-  pub from-outside : (b ≡ 0 → ⊥) → mayEnter g b moves ≡ false → firstFrom t g back moves b ≡ Refused 8 back
-  unfolding firstFrom firstWithin mayEnter
-  from-outside ne e = go (g .blocks - moves) refl
+  pub from-outside : (b ≡ 0 → ⊥) → inReach g b moves ≡ false → firstFrom t g back moves b ≡ Refused 8 back
+  unfolding firstFrom firstWithin
+  from-outside ne e = go (g .blocks - moves)
     where
-      go : (left : ℕ) → g .blocks - moves ≡ left → firstWithin t g back left moves b ≡ Refused 8 back
-      go zero l = rw (ne-eqb b 0 ne)
-      go (suc left) l = rw (ne-eqb b 0 ne, outside (hasBlock g b) e)
-        where
-          outside : (h : Bool) → (h && ltb moves (g .blocks)) ≡ false → h ≡ false
-          outside true f = sym (lt-ltb moves (g .blocks) (omega arith)) ∙ f
-          outside false f = refl
+      go : (left : ℕ) → firstWithin t g back left moves b ≡ Refused 8 back
+      go zero = rw (ne-eqb b 0 ne)
+      go (suc left) = rw (ne-eqb b 0 ne, e)
 
-  module _ (ne : b ≡ 0 → ⊥) (e : mayEnter g b moves ≡ true) where
-    -- a block that may be entered tells by its count
+  module _ (ne : b ≡ 0 → ⊥) (e : inReach g b moves ≡ true) where
+    -- a block in reach tells by its count
     entered : firstFrom t g back moves b ≡ firstIn back b moves (countIn t g b) (firstFrom t g back (moves + 1) (nextOf t g b))
     unfolding firstFrom firstWithin
     entered =
-        let l : g .blocks - moves ≡ suc (g .blocks - (moves + 1)) = omega (arith, enter-moves g b moves e) in
-        rw (l, ne-eqb b 0 ne, parts g b moves e .0, add-one)
+        let l : g .blocks - moves ≡ suc (g .blocks - (moves + 1)) = omega (arith, reach-moves g b moves e) in
+        rw (l, ne-eqb b 0 ne, e, add-one)
 
     pub from-bad : countIn t g b ≡ Bad → firstFrom t g back moves b ≡ Refused 9 back
     unfolding firstIn
@@ -84,11 +80,11 @@ module _ (t : List ℕ) (g : Shape) (back : Cursor) (moves b : ℕ) where
 -- ---- a cursor that has not ended
 
 module _ (t : List ℕ) (g : Shape) (c : Cursor) where
-  pub step-outside : mayEnter g (c .block) (c .moves) ≡ false → stepIn t g c ≡ Refused 13 c
+  pub step-outside : inReach g (c .block) (c .moves) ≡ false → stepIn t g c ≡ Refused 13 c
   unfolding stepIn
   step-outside e = rw e
 
-  module _ (e : mayEnter g (c .block) (c .moves) ≡ true) where
+  module _ (e : inReach g (c .block) (c .moves) ≡ true) where
     pub step-bad : countIn t g (c .block) ≡ Bad → stepIn t g c ≡ Refused 9 c
     unfolding stepIn stepWith
     step-bad k = rw (e, k)

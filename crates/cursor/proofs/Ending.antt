@@ -14,11 +14,11 @@ use Rattle.blocks.specs.declared.Shape.{Shape}
 use Rattle.blocks.proofs.ShapeLaws.{sound}
 use Rattle.blocks.proofs.CountLaws.{count-few}
 use Rattle.cursor.specs.Cursor.{atEnd, startOf, stepOf}
-use Rattle.cursor.specs.Rules.{OnRecord, Answered, found, Behind, next-place, more-moves, Ends, no-record, no-answer, a-record}
+use Rattle.cursor.specs.Rules.{OnRecord, Answered, found, After, next-place, more-moves, Ends, by-end, by-refusal, later}
 use Rattle.cursor.specs.declared.Cursor.{Cursor}
 use Rattle.cursor.specs.declared.Step.{Step}
 use Rattle.cursor.specs.declared.Step.the-variants.{Record, End, Refused}
-use Rattle.cursor.proofs.AnswerLaws.{start-answers, step-answers, step-behind}
+use Rattle.cursor.proofs.AnswerLaws.{start-answers, step-answers, step-after}
 use Rattle.cursor.proofs.CursorLaws.{start-refused, step-refused}
 
 module _ (t : List ℕ) where
@@ -28,8 +28,8 @@ module _ (t : List ℕ) where
   -- an answer ends where every record that it may be does
   answer-ends : (back : Cursor) (s : Step) → Answered t g back s → ((d : Cursor) → s ≡ Record d → OnRecord t g d → Ends t (Record d)) → Ends t s
   answer-ends back (Record c) (found r) h = h c refl r
-  answer-ends back (End c) a h = no-record
-  answer-ends back (Refused n c) a h = no-answer
+  answer-ends back (End c) a h = by-end
+  answer-ends back (Refused n c) a h = by-refusal
 
   module _ (w : Sound t g) where
     -- a place is below the block's size
@@ -37,13 +37,13 @@ module _ (t : List ℕ) where
     place-below c r = omega (arith, r .there, count-few t g w (c .block) (r .count) (r .counted))
 
     -- from a cursor on a record, where stepping ends after more moves than its own
-    in-block : (later : ℕ) → ((d : Cursor) → OnRecord t g d → later ≤ d .moves → Ends t (Record d))
-        → (left : ℕ) (c : Cursor) → OnRecord t g c → suc (c .moves) ≡ later → g .block - c .place ≤ left → Ends t (Record c)
-    in-block later ih zero c r e l = absurd (omega (arith, place-below c r))
-    in-block later ih (suc left) c r e l =
-        a-record (answer-ends c (stepOf t c) (step-answers t c) (λ d s q. go d q (step-behind t c d s) (in-block later ih left d q)))
+    in-block : (more : ℕ) → ((d : Cursor) → OnRecord t g d → more ≤ d .moves → Ends t (Record d))
+        → (left : ℕ) (c : Cursor) → OnRecord t g c → suc (c .moves) ≡ more → g .block - c .place ≤ left → Ends t (Record c)
+    in-block more ih zero c r e l = absurd (omega (arith, place-below c r))
+    in-block more ih (suc left) c r e l =
+        later (answer-ends c (stepOf t c) (step-answers t c) (λ d s q. go d q (step-after t c d s) (in-block more ih left d q)))
       where
-        go : (d : Cursor) → OnRecord t g d → Behind c d → (suc (d .moves) ≡ later → g .block - d .place ≤ left → Ends t (Record d)) → Ends t (Record d)
+        go : (d : Cursor) → OnRecord t g d → After c d → (suc (d .moves) ≡ more → g .block - d .place ≤ left → Ends t (Record d)) → Ends t (Record d)
         go d q (next-place b m p) stays = stays (omega arith) (omega (arith, place-below c r))
         go d q (more-moves m) stays = ih d q (omega arith)
 
@@ -61,11 +61,11 @@ module _ (t : List ℕ) where
     where
       go : (b : Bool) → eqb (headerOf t .refusal) 0 ≡ b → Ends t (startOf t)
       go true e = answer-ends atEnd (startOf t) (start-answers t) (λ d s r. record-ends (sound t (headerOf t) (accepted t (eqb-true (headerOf t .refusal) 0 e))) d r)
-      go false e = rw (start-refused t (eqb-false (headerOf t .refusal) 0 e)) no-answer
+      go false e = rw (start-refused t (eqb-false (headerOf t .refusal) 0 e)) by-refusal
 
   pub step-ends : (c : Cursor) → Ends t (stepOf t c)
   step-ends c = go (eqb (headerOf t .refusal) 0) refl
     where
       go : (b : Bool) → eqb (headerOf t .refusal) 0 ≡ b → Ends t (stepOf t c)
       go true e = answer-ends c (stepOf t c) (step-answers t c) (λ d s r. record-ends (sound t (headerOf t) (accepted t (eqb-true (headerOf t .refusal) 0 e))) d r)
-      go false e = rw (step-refused t c (eqb-false (headerOf t .refusal) 0 e)) no-answer
+      go false e = rw (step-refused t c (eqb-false (headerOf t .refusal) 0 e)) by-refusal

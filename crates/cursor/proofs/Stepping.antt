@@ -17,31 +17,31 @@ use Rattle.blocks.proofs.ShapeLaws.{shape-blocks}
 use Rattle.chain.specs.Links.{nextOf, usedOf}
 use Rattle.table.specs.Records.{Position, held, placesFrom, recordsIn, recordsOf}
 use Rattle.table.specs.Table.{tableAnswer}
-use Rattle.table.specs.Rules.{GoodChain}
+use Rattle.table.specs.Steps.{GoodChain}
 use Rattle.table.proofs.GoodChainLaws.{Block, good-begins, good-none, good-some}
 use Rattle.table.proofs.RuleLaws.{table-gives, accepted-table}
-use Rattle.cursor.specs.Cursor.{atEnd, standing, mayEnter, firstFrom, startOf, stepOf}
+use Rattle.cursor.specs.Cursor.{atEnd, standing, inReach, firstFrom, startOf, stepOf}
 use Rattle.cursor.specs.Rules.{positionOf, Gives, none, one}
 use Rattle.cursor.specs.declared.Cursor.{Cursor}
 use Rattle.cursor.specs.declared.Step.{Step}
 use Rattle.cursor.specs.declared.Step.the-variants.{Record}
-use Rattle.cursor.proofs.CursorLaws.{may-enter, from-end, from-record, from-empty, step-stays, step-moves, start-accepted, step-goes}
+use Rattle.cursor.proofs.CursorLaws.{in-reach, from-end, from-record, from-empty, step-stays, step-moves, start-accepted, step-goes}
 
 module _ (t : List ℕ) (zero-number : headerOf t .refusal ≡ 0) where
   abbrev g : Shape
   g = shapeOf (headerOf t)
 
-  -- from a place of a block on: its n + 1 records that are left, then what comes behind the block
-  places-give : (b moves count : ℕ) → mayEnter g b moves ≡ true → countIn t g b ≡ Records count
+  -- from a place of a block on: its n + 1 records that are left, then what comes after the block
+  places-give : (b moves count : ℕ) → inReach g b moves ≡ true → countIn t g b ≡ Records count
       → (rest : List Position) → ((back : Cursor) → Gives t (firstFrom t g back (moves + 1) (nextOf t g b)) rest)
       → (n place : ℕ) → place + suc n ≡ count → Gives t (Record (standing b place moves)) (placesFrom b place (suc n) ++ rest)
   unfolding placesFrom
-  places-give b moves count e k rest behind zero place s =
+  places-give b moves count e k rest after zero place s =
       let c = standing b place moves in
-      one {c = c} {ps = rest} (rw (step-goes t c zero-number refl, step-moves t g c e count k (omega arith) (omega arith)) (behind c))
-  places-give b moves count e k rest behind (suc n) place s =
+      one {c = c} {ps = rest} (rw (step-goes t c zero-number refl, step-moves t g c e count k (omega arith) (omega arith)) (after c))
+  places-give b moves count e k rest after (suc n) place s =
       let c = standing b place moves in
-      one {c = c} {ps = placesFrom b (suc place) (suc n) ++ rest} (rw (step-goes t c zero-number refl, step-stays t g c e count k (omega arith), add-one) (places-give b moves count e k rest behind n (suc place) (omega arith)))
+      one {c = c} {ps = placesFrom b (suc place) (suc n) ++ rest} (rw (step-goes t c zero-number refl, step-stays t g c e count k (omega arith), add-one) (places-give b moves count e k rest after n (suc place) (omega arith)))
 
   -- from a number of the chain on
   chain-gives : (bs : List ℕ) (b moves : ℕ) → GoodChain t g b bs → moves + length bs ≤ g .blocks → (back : Cursor) → Gives t (firstFrom t g back moves b) (recordsIn t g bs)
@@ -49,18 +49,18 @@ module _ (t : List ℕ) (zero-number : headerOf t .refusal ≡ 0) where
   chain-gives [] b moves c l back = rw (from-end t g back moves b (good-none t g b c)) none
   chain-gives (x ∷ bs) b moves c l back =
       let p = good-some t g b x bs c in
-      rw (p .0, p .1 .counted) (by-count (p .1) (may-enter g x moves (p .1 .low) (p .1 .high) (omega arith)) (λ back. chain-gives bs (nextOf t g x) (moves + 1) (p .1 .onward) (omega arith) back))
+      rw (p .0, p .1 .counted) (by-count (p .1) (in-reach g x moves (p .1 .low) (p .1 .high) (omega arith)) (λ back. chain-gives bs (nextOf t g x) (moves + 1) (p .1 .onward) (omega arith) back))
     where
-      by-count : (q : Block t g x bs) → mayEnter g x moves ≡ true → ((back : Cursor) → Gives t (firstFrom t g back (moves + 1) (nextOf t g x)) (recordsIn t g bs))
+      by-count : (q : Block t g x bs) → inReach g x moves ≡ true → ((back : Cursor) → Gives t (firstFrom t g back (moves + 1) (nextOf t g x)) (recordsIn t g bs))
           → Gives t (firstFrom t g back moves x) (placesFrom x 0 (q .count) ++ recordsIn t g bs)
-      by-count q e behind = go (q .count) (q .counted)
+      by-count q e after = go (q .count) (q .counted)
         where
           ne : x ≡ 0 → ⊥
           ne z = omega (arith, q .low)
 
           go : (n : ℕ) → countIn t g x ≡ Records n → Gives t (firstFrom t g back moves x) (placesFrom x 0 n ++ recordsIn t g bs)
-          go zero k = rw (from-empty t g back moves x ne e 0 k refl) (behind back)
-          go (suc n) k = rw (from-record t g back moves x ne e (suc n) k (λ z. omega arith)) (places-give x moves (suc n) e k (recordsIn t g bs) behind n 0 (zero-add (suc n)))
+          go zero k = rw (from-empty t g back moves x ne e 0 k refl) (after back)
+          go (suc n) k = rw (from-record t g back moves x ne e (suc n) k (λ z. omega arith)) (places-give x moves (suc n) e k (recordsIn t g bs) after n 0 (zero-add (suc n)))
 
 -- ---- what stepping gives is determined
 

@@ -26,36 +26,41 @@ atEnd = record { block = 0; place = 0; moves = 0; ended = true }
 abbrev pub standing : ℕ → ℕ → ℕ → Cursor
 standing b place moves = record { block = b; place = place; moves = moves; ended = false }
 
--- an answer as document 01's number and cursor: 0 with a record or the end, or a refusal's number
-unfoldable pub numbersOf : Step → ℕ × Cursor
-numbersOf (Record c) = (0, c)
-numbersOf (End c) = (0, c)
-numbersOf (Refused n c) = (n, c)
+-- an answer in document 01's numbers: the refusal's, 1 where a record came, and the cursor with its own
+pub record Numbers : Type 0 where
+  pub refusal : ℕ
+  pub found : ℕ
+  pub cursor : Cursor
+
+unfoldable pub numbersOf : Step → Numbers
+numbersOf (Record c) = record { refusal = 0; found = 1; cursor = c }
+numbersOf (End c) = record { refusal = 0; found = 0; cursor = c }
+numbersOf (Refused n c) = record { refusal = n; found = 0; cursor = c }
 
 -- ---- the first record from a block on
 
--- the file has block b, and so many moves are at most the blocks in file less 1
-unfoldable pub mayEnter : Shape → ℕ → ℕ → Bool
-mayEnter g b moves = hasBlock g b && ltb moves (g .blocks)
+-- 8, 13: the file has block b, and so many moves are at most the blocks in file less 1
+unfoldable pub inReach : Shape → ℕ → ℕ → Bool
+inReach g b moves = hasBlock g b && ltb moves (g .blocks)
 
 -- block b by its count, reached after so many moves: its first record; 9 for a bad count; one without records is passed over, and
--- what comes behind it is the answer. A refusal hands `back` back
+-- `rest` is the answer. A refusal hands `back` back
 unfoldable pub firstIn : Cursor → ℕ → ℕ → Count → Step → Step
-firstIn back b moves (Records zero) behind = behind
-firstIn back b moves (Records (suc n)) behind = Record (standing b 0 moves)
-firstIn back b moves Bad behind = Refused wrongCount back
+firstIn back b moves (Records zero) rest = rest
+firstIn back b moves (Records (suc n)) rest = Record (standing b 0 moves)
+firstIn back b moves Bad rest = Refused wrongCount back
 
--- from number b on, where `left` blocks may still be entered: 0 is the end; 8 for a number out of range, and for a move too many.
--- To the next block it is one move more
+-- from number b on, reached after so many moves: 0 is the end; 8 for a number out of range and for a move beyond blocks - 1; to the
+-- next block it is one move more. `left` is how many blocks may still be entered
 unfoldable pub firstWithin : List ℕ → Shape → Cursor → ℕ → ℕ → ℕ → Step
 firstWithin t g back zero moves b = cond (eqb b 0) (End atEnd) (Refused chainRule back)
 firstWithin t g back (suc left) moves b =
     cond (eqb b 0) (End atEnd)
-    (cond (hasBlock g b)
+    (cond (inReach g b moves)
     (firstIn back b moves (countIn t g b) (firstWithin t g back left (suc moves) (nextOf t g b)))
     (Refused chainRule back))
 
--- from number b on, reached after so many moves. At most blocks - 1 moves are made, so blocks - moves blocks may be entered
+-- at most blocks - 1 moves are made, so blocks - moves blocks may be entered
 unfoldable pub firstFrom : List ℕ → Shape → Cursor → ℕ → ℕ → Step
 firstFrom t g back moves b = firstWithin t g back (g .blocks - moves) moves b
 
@@ -69,7 +74,8 @@ startOf t = cond (eqb (headerOf t .refusal) 0) (startIn t (headerOf t)) (Refused
 
 -- ---- stepping: 1 to 7, then 13, 9, 13 for the cursor itself, then the next record. A refusal hands the same cursor back
 
--- the record behind that of the cursor, by its block's count: in its block, or from the next number on; 13 for no such place
+-- the record after the cursor's, by its block's count: in its block, or from the next number on; 9 for a bad count, 13 for no such
+-- place
 unfoldable pub stepWith : List ℕ → Shape → Cursor → Count → Step
 stepWith t g c Bad = Refused wrongCount c
 stepWith t g c (Records n) =
@@ -81,7 +87,7 @@ stepWith t g c (Records n) =
 
 -- 13 for a block outside the file or more than blocks - 1 moves
 unfoldable pub stepIn : List ℕ → Shape → Cursor → Step
-stepIn t g c = cond (mayEnter g (c .block) (c .moves)) (stepWith t g c (countIn t g (c .block))) (Refused badArgument c)
+stepIn t g c = cond (inReach g (c .block) (c .moves)) (stepWith t g c (countIn t g (c .block))) (Refused badArgument c)
 
 -- a cursor that has ended stays so, and its numbers become 0
 unfoldable pub stepOf : List ℕ → Cursor → Step
@@ -90,10 +96,10 @@ stepOf t c =
     (cond (c .ended) (End atEnd) (stepIn t (shapeOf (headerOf t)) c))
     (Refused (headerOf t .refusal) c)
 
--- ---- both as document 01's number and cursor
+-- ---- both in document 01's numbers
 
-unfoldable pub startNumbers : List ℕ → ℕ × Cursor
+unfoldable pub startNumbers : List ℕ → Numbers
 startNumbers t = numbersOf (startOf t)
 
-unfoldable pub stepNumbers : List ℕ → Cursor → ℕ × Cursor
+unfoldable pub stepNumbers : List ℕ → Cursor → Numbers
 stepNumbers t c = numbersOf (stepOf t c)

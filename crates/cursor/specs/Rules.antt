@@ -14,8 +14,7 @@ use Rattle.cursor.specs.declared.Step.the-variants.{Record, End, Refused
 
 -- ---- one answer, of any bytes
 
--- a cursor on a record: its block is in the file and counts more records than its place, and its moves are at most blocks - 1. So no
--- step from it is refused with 13, nor with 9 for its own block
+-- a cursor on a record: its block is in the file and counts more records than its place, and its moves are at most blocks - 1
 pub record OnRecord (t : List ℕ) (g : Shape) (c : Cursor) : Type 0 where
   pub going : c .ended ≡ false
   pub low : 1 ≤ c .block
@@ -31,18 +30,18 @@ pub data Answered (t : List ℕ) (g : Shape) (back : Cursor) : Step → Type 0 w
   over : Answered t g back (End atEnd)
   refusing : {n : ℕ} → 1 ≤ n → Answered t g back (Refused n back)
 
--- cursor d is behind cursor c: at the next place of the same block, or more moves on
-pub data Behind (c d : Cursor) : Type 0 where
-  next-place : d .block ≡ c .block → d .moves ≡ c .moves → d .place ≡ suc (c .place) → Behind c d
-  more-moves : c .moves < d .moves → Behind c d
+-- cursor d comes after cursor c: at the next place of the same block, or with more moves made
+pub data After (c d : Cursor) : Type 0 where
+  next-place : d .block ≡ c .block → d .moves ≡ c .moves → d .place ≡ suc (c .place) → After c d
+  more-moves : c .moves < d .moves → After c d
 
 -- ---- all answers, of any bytes
 
 -- from an answer on, stepping comes to one that is no record
 pub data Ends (t : List ℕ) : Step → Type 0 where
-  no-record : {c : Cursor} → Ends t (End c)
-  no-answer : {n : ℕ} {c : Cursor} → Ends t (Refused n c)
-  a-record : {c : Cursor} → Ends t (stepOf t c) → Ends t (Record c)
+  by-end : {c : Cursor} → Ends t (End c)
+  by-refusal : {n : ℕ} {c : Cursor} → Ends t (Refused n c)
+  later : {c : Cursor} → Ends t (stepOf t c) → Ends t (Record c)
 
 -- ---- all answers, of an accepted table
 

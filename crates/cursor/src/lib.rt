@@ -9,7 +9,7 @@ use blocks::Shape;
 use header::refusal;
 
 // Where stepping stands: on the record at a place (from 0) of a block, after so many moves from block to
-// block; or ended, and then its numbers are 0.
+// block; or ended. An ended one that starting or stepping makes has its numbers 0.
 pub struct Cursor {
     pub block: u16,
     pub place: u16,
@@ -28,7 +28,8 @@ pub enum Step {
 }
 
 impl Cursor {
-    // The first record of any bytes, or the end; or the first of 1 to 7, 8 and 9 that applies.
+    // The first record of any bytes, or the end; or the first of 1 to 7 that applies, then 8 or 9, whichever
+    // is met first along the chain.
     pub fn start(table: &[u8]) -> Step
         ensures { λ r. ⌜ (r ≡ startOf (now (table .entry))) × (numbersOf r ≡ startNumbers (now (table .entry))) ⌝ }
     {
@@ -40,8 +41,8 @@ impl Cursor {
         moves::first_from(table, shape, Cursor::at_end(), 0, h.first as usize)
     }
 
-    // The record after that of a cursor, whoever made it, or the end; or the first of 1 to 7, 13, 9, 13, 8
-    // and 9 that applies. An ended cursor has no record after it.
+    // The record after that of a cursor, whoever made it, or the end; or the first of 1 to 7, 13, 9 and 13
+    // that applies, then 8 or 9, whichever is met first along the chain. An ended cursor steps to the end.
     pub fn step(self, table: &[u8]) -> Step
         ensures { λ r. ⌜ (r ≡ stepOf (now (table .entry)) self) × (numbersOf r ≡ stepNumbers (now (table .entry)) self) ⌝ }
     {
@@ -74,7 +75,7 @@ fn next_record(table: &[u8], shape: Shape, cursor: Cursor) -> Step
     ensures { λ r. ⌜ r ≡ stepIn (now (table .entry)) shape cursor ⌝ }
 {
     let block = cursor.block as usize;
-    if !moves::may_enter(shape, block, cursor.moves) {
+    if !moves::in_reach(shape, block, cursor.moves) {
         return Step::Refused(refusal::BAD_ARGUMENT, cursor);
     }
     let Count::Records(count) = blocks::count_in(table, shape, block) else {

@@ -2,7 +2,7 @@
 // The module is private: its functions are helpers of the cursor, which meets what they require.
 ghost use mathlib.Core.Path.{_≡_};
 ghost use Rattle.blocks.specs.Shape.{Sound};
-ghost use Rattle.cursor.specs.Cursor.{firstFrom, mayEnter};
+ghost use Rattle.cursor.specs.Cursor.{firstFrom, inReach};
 use crate::Cursor;
 use crate::Step;
 use blocks::Count;
@@ -11,8 +11,8 @@ use chain::next_of;
 use header::refusal;
 
 // Whether the file has the block, and so many moves are at most the number of its blocks less 1.
-pub fn may_enter(shape: Shape, block: usize, moves: u16) -> bool
-    ensures { λ r. ⌜ r ≡ mayEnter shape block moves ⌝ }
+pub fn in_reach(shape: Shape, block: usize, moves: u16) -> bool
+    ensures { λ r. ⌜ r ≡ inReach shape block moves ⌝ }
 {
     blocks::has_block(shape, block) & (moves < shape.blocks)
 }
@@ -26,7 +26,7 @@ pub fn first_from(table: &[u8], shape: Shape, back: Cursor, moves: u16, first: u
     let mut block = first;
     let mut made = moves;
     while block != 0 {
-        if !may_enter(shape, block, made) {
+        if !in_reach(shape, block, made) {
             return Step::Refused(refusal::CHAIN_RULE, back);
         }
         let Count::Records(count) = blocks::count_in(table, shape, block) else {

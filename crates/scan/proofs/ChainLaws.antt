@@ -10,7 +10,7 @@ use Rattle.blocks.specs.declared.count.Count.the-variants.{Records}
 use Rattle.chain.specs.Chain.{chainFrom}
 use Rattle.chain.specs.Links.{nextOf}
 use Rattle.table.specs.Records.{held, placesFrom, recordsIn}
-use Rattle.table.specs.Rules.{GoodChain}
+use Rattle.table.specs.Steps.{GoodChain}
 use Rattle.table.proofs.GoodChainLaws.{good-ends, good-here, good-follows}
 use Rattle.scan.specs.Steps.{recordsFrom}
 

@@ -15,9 +15,9 @@ use Rattle.scan.specs.Scan.{firstWith}
 use Rattle.scan.specs.declared.found.Found.the-variants.{At, Absent}
 
 module _ (t : List ℕ) (g : Shape) (key : List ℕ) where
-  -- whether a record has the key
-  abbrev pub hasKey : Position → Bool
-  hasKey p = isSame (order (keyAt t g (length key) p) key)
+  -- whether a record has the key sought
+  abbrev pub isSought : Position → Bool
+  isSought p = isSame (order (keyAt t g (length key) p) key)
 
   -- ---- the records of a block from a place up to a count
 
@@ -30,14 +30,14 @@ module _ (t : List ℕ) (g : Shape) (key : List ℕ) where
       abbrev here : Position
       here = record { block = b; place = place }
 
-      places-on : firstWith t g key (placesFrom b place (count - place)) ≡ cond (hasKey here) (At b place) (firstWith t g key (placesFrom b (place + 1) (count - (place + 1))))
+      places-on : firstWith t g key (placesFrom b place (count - place)) ≡ cond (isSought here) (At b place) (firstWith t g key (placesFrom b (place + 1) (count - (place + 1))))
       unfolding placesFrom firstWith
       places-on = let e : count - place ≡ suc (count - (place + 1)) = omega arith in rw (e, add-one)
 
-      pub places-hit : hasKey here ≡ true → firstWith t g key (placesFrom b place (count - place)) ≡ At b place
+      pub places-hit : isSought here ≡ true → firstWith t g key (placesFrom b place (count - place)) ≡ At b place
       places-hit h = places-on ∙ rw h
 
-      pub places-miss : hasKey here ≡ false → firstWith t g key (placesFrom b place (count - place)) ≡ firstWith t g key (placesFrom b (place + 1) (count - (place + 1)))
+      pub places-miss : isSought here ≡ false → firstWith t g key (placesFrom b place (count - place)) ≡ firstWith t g key (placesFrom b (place + 1) (count - (place + 1)))
       places-miss h = places-on ∙ rw h
 
   -- ---- one list behind another
@@ -46,7 +46,7 @@ module _ (t : List ℕ) (g : Shape) (key : List ℕ) where
     pub first-hit : (ps : List Position) → isRecord (firstWith t g key ps) ≡ true → firstWith t g key (ps ++ qs) ≡ firstWith t g key ps
     unfolding firstWith isRecord
     first-hit [] e = absurd (false≢true e)
-    first-hit (p ∷ ps) e = go (hasKey p) e (first-hit ps)
+    first-hit (p ∷ ps) e = go (isSought p) e (first-hit ps)
       where
         go : (c : Bool) → isRecord (cond c (At (p .block) (p .place)) (firstWith t g key ps)) ≡ true
             → (isRecord (firstWith t g key ps) ≡ true → firstWith t g key (ps ++ qs) ≡ firstWith t g key ps)
@@ -57,7 +57,7 @@ module _ (t : List ℕ) (g : Shape) (key : List ℕ) where
     pub first-miss : (ps : List Position) → isRecord (firstWith t g key ps) ≡ false → firstWith t g key (ps ++ qs) ≡ firstWith t g key qs
     unfolding firstWith isRecord
     first-miss [] e = refl
-    first-miss (p ∷ ps) e = go (hasKey p) e (first-miss ps)
+    first-miss (p ∷ ps) e = go (isSought p) e (first-miss ps)
       where
         go : (c : Bool) → isRecord (cond c (At (p .block) (p .place)) (firstWith t g key ps)) ≡ false
             → (isRecord (firstWith t g key ps) ≡ false → firstWith t g key (ps ++ qs) ≡ firstWith t g key qs)

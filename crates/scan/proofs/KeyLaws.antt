@@ -1,12 +1,14 @@
 -- The scan of an accepted table is absent exactly when no record has the key, and what it finds is the only record that has it.
 -- Assumes nothing.
-use Prim.Native.Nat.{ℕ, zero, suc, _<_}
+use Prim.Native.Nat.{ℕ, zero, suc, _≤_, _<_}
 use mathlib.Core.Path.{_≡_, refl, sym, ap, subst, _∙_}
 use mathlib.Core.Bool.{Bool, true, false, cond, false≢true}
 use mathlib.Core.List.{List, [], _∷_}
 use native.Mathlib.Nat.{not-suc-le-zero, le-of-suc-le-suc}
 use native.Mathlib.Omega.{arith}
+use lib.Dec.{eqb}
 use lib.ListN.{length, getD}
+use borrow.Author.Tests.{eqb-true, eqb-false}
 use Rattle.words.specs.Order.{isSame, order}
 use Rattle.words.specs.declared.Order.{Order}
 use Rattle.words.specs.declared.Order.the-variants.{Less, Same, More}
@@ -24,8 +26,8 @@ use Rattle.scan.specs.Scan.{firstWith, keyFits, scanOf}
 use Rattle.scan.specs.Rules.{HasKey}
 use Rattle.scan.specs.declared.found.Found.{Found}
 use Rattle.scan.specs.declared.found.Found.the-variants.{At, Absent, Refused}
-use Rattle.scan.proofs.FirstLaws.{hasKey}
-use Rattle.scan.proofs.ScanLaws.{fits-gives, scan-first}
+use Rattle.scan.proofs.FirstLaws.{isSought}
+use Rattle.scan.proofs.ScanLaws.{fits-gives, scan-refused, scan-unfit, scan-first}
 
 -- ---- the test of a key is its equality
 
@@ -36,10 +38,10 @@ is-same Same e = refl
 is-same More e = absurd (false≢true e)
 
 module _ (t : List ℕ) (g : Shape) (key : List ℕ) where
-  key-gives : (p : Position) → hasKey t g key p ≡ true → keyAt t g (length key) p ≡ key
+  key-gives : (p : Position) → isSought t g key p ≡ true → keyAt t g (length key) p ≡ key
   key-gives p e = order-same (keyAt t g (length key) p) key (is-same (order (keyAt t g (length key) p) key) e)
 
-  key-takes : (p : Position) → keyAt t g (length key) p ≡ key → hasKey t g key p ≡ true
+  key-takes : (p : Position) → keyAt t g (length key) p ≡ key → isSought t g key p ≡ true
   unfolding isSame
   key-takes p e = rw (e, order-refl)
 
@@ -50,7 +52,7 @@ module _ (t : List ℕ) (g : Shape) (key : List ℕ) where
     finds : (p : Position) (i : ℕ) → i < length ps → getD ps i p ≡ p → keyAt t g (length key) p ≡ key → r ≡ At (p .block) (p .place) → Looked ps r
     misses : ((i : ℕ) (d : Position) → i < length ps → keyAt t g (length key) (getD ps i d) ≡ key → ⊥) → r ≡ Absent → Looked ps r
 
-  later : (p : Position) (ps : List Position) (r : Found) → hasKey t g key p ≡ false → Looked ps r → Looked (p ∷ ps) r
+  later : (p : Position) (ps : List Position) (r : Found) → isSought t g key p ≡ false → Looked ps r → Looked (p ∷ ps) r
   later p ps r e (finds q i l there same at) = finds q (suc i) (omega arith) there same at
   later p ps r e (misses h none) = misses go none
     where
@@ -61,11 +63,34 @@ module _ (t : List ℕ) (g : Shape) (key : List ℕ) where
   looked : (ps : List Position) → Looked ps (firstWith t g key ps)
   unfolding firstWith
   looked [] = misses (λ i d l k. absurd (not-suc-le-zero l)) refl
-  looked (p ∷ ps) = go (hasKey t g key p) refl (looked ps)
+  looked (p ∷ ps) = go (isSought t g key p) refl (looked ps)
     where
-      go : (c : Bool) → hasKey t g key p ≡ c → Looked ps (firstWith t g key ps) → Looked (p ∷ ps) (cond c (At (p .block) (p .place)) (firstWith t g key ps))
+      go : (c : Bool) → isSought t g key p ≡ c → Looked ps (firstWith t g key ps) → Looked (p ∷ ps) (cond c (At (p .block) (p .place)) (firstWith t g key ps))
       go true e w = finds p 0 (omega arith) refl (key-gives p e) refl
       go false e w = later p ps (firstWith t g key ps) e w
+
+-- ---- a refused scan has a number, so absent is told from it by the numbers too
+
+first-answers : (t : List ℕ) (g : Shape) (key : List ℕ) (ps : List Position) (n : ℕ) → firstWith t g key ps ≡ Refused n → ⊥
+first-answers t g key ps n e = go (looked t g key ps)
+  where
+    go : Looked t g key ps (firstWith t g key ps) → ⊥
+    go (finds p i l there same at) = let z : _≡_ {A = ℕ} 0 1 = cc in omega arith
+    go (misses none at) = let z : _≡_ {A = ℕ} 0 1 = cc in omega arith
+
+pub refused-number : (t key : List ℕ) (room n : ℕ) → scanOf t key room ≡ Refused n → 1 ≤ n
+refused-number t key room n r = by-table (eqb (tableAnswer t room) 0) refl
+  where
+    same : (m : ℕ) → scanOf t key room ≡ Refused m → m ≡ n
+    same m e = cc
+
+    by-key : tableAnswer t room ≡ 0 → (b : Bool) → keyFits (headerOf t) key ≡ b → 1 ≤ n
+    by-key e true f = absurd (first-answers t (shapeOf (headerOf t)) key (recordsOf t (headerOf t)) n (sym (scan-first t key room e f) ∙ r))
+    by-key e false f = omega (arith, same 13 (scan-unfit t key room e f))
+
+    by-table : (b : Bool) → eqb (tableAnswer t room) 0 ≡ b → 1 ≤ n
+    by-table true e = by-key (eqb-true (tableAnswer t room) 0 e) (keyFits (headerOf t) key) refl
+    by-table false e = let ne = eqb-false (tableAnswer t room) 0 e in omega (arith, same (tableAnswer t room) (scan-refused t key room ne))
 
 -- ---- the scan of an accepted table, for a key of its key length
 

@@ -17,8 +17,8 @@ use Rattle.table.specs.Records.{recordsOf}
 use Rattle.table.specs.Table.{tableAnswer}
 use Rattle.table.specs.Rules.{AcceptedTable}
 use Rattle.table.proofs.GoodChainLaws.{good-begins}
-use Rattle.scan.specs.Found.{numbersOf}
-use Rattle.scan.specs.Scan.{firstWith, keyFits, scanIn, scanOf, scanNumbers}
+use Rattle.scan.specs.Found.{lookupOf}
+use Rattle.scan.specs.Scan.{firstWith, keyFits, scanIn, scanOf, scanLookup}
 use Rattle.scan.specs.Steps.{Searchable, recordsFrom}
 use Rattle.scan.specs.declared.found.Found.{Found}
 use Rattle.scan.specs.declared.found.Found.the-variants.{Refused}
@@ -44,9 +44,9 @@ module _ (t key : List ℕ) (room : ℕ) where
     scan-first f = rw (eq-eqb (tableAnswer t room) 0 e, f)
 
   -- an answer has the numbers of the definition's
-  pub scans : (r : Found) → r ≡ scanOf t key room → (r ≡ scanOf t key room) × (numbersOf r ≡ scanNumbers t key room)
-  unfolding scanNumbers
-  scans r e = (e, ap numbersOf e)
+  pub scans : (r : Found) → r ≡ scanOf t key room → (r ≡ scanOf t key room) × (lookupOf r ≡ scanLookup t key room)
+  unfolding scanLookup
+  scans r e = (e, ap lookupOf e)
 
 -- ---- behind an accepted table check; g and b are the shape and the first block that its header gives
 

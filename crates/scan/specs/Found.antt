@@ -4,19 +4,18 @@ use mathlib.Core.Bool.{Bool, true, false}
 use Rattle.scan.specs.declared.found.Found.{Found}
 use Rattle.scan.specs.declared.found.Found.the-variants.{At, Absent, Refused}
 
--- the numbers of a lookup's answer: the refusal's, 1 where the key was found, its record's block and place, the index blocks read. A
--- refusal has its number only; absent has block and place 0; a scan reads no index block
+-- the numbers of a lookup: the refusal's, 1 where the key was found, and its record's block and place. A refusal has its number only;
+-- absent has block and place 0
 pub record Lookup : Type 0 where
   pub refusal : ℕ
   pub found : ℕ
   pub block : ℕ
   pub place : ℕ
-  pub reads : ℕ
 
-unfoldable pub numbersOf : Found → Lookup
-numbersOf (At b p) = record { refusal = 0; found = 1; block = b; place = p; reads = 0 }
-numbersOf Absent = record { refusal = 0; found = 0; block = 0; place = 0; reads = 0 }
-numbersOf (Refused n) = record { refusal = n; found = 0; block = 0; place = 0; reads = 0 }
+unfoldable pub lookupOf : Found → Lookup
+lookupOf (At b p) = record { refusal = 0; found = 1; block = b; place = p }
+lookupOf Absent = record { refusal = 0; found = 0; block = 0; place = 0 }
+lookupOf (Refused n) = record { refusal = n; found = 0; block = 0; place = 0 }
 
 -- whether an answer is a record
 unfoldable pub isRecord : Found → Bool

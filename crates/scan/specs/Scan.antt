@@ -12,8 +12,8 @@ use Rattle.blocks.specs.Shape.{shapeOf}
 use Rattle.blocks.specs.declared.Shape.{Shape}
 use Rattle.table.specs.Records.{Position, recordsOf}
 use Rattle.table.specs.Keys.{keyAt}
-use Rattle.table.specs.Table.{tableAnswer}
-use Rattle.scan.specs.Found.{Lookup, numbersOf}
+use Rattle.table.specs.Table.{tableAnswer, tableMarks}
+use Rattle.scan.specs.Found.{Lookup, lookupOf}
 use Rattle.scan.specs.declared.found.Found.{Found}
 use Rattle.scan.specs.declared.found.Found.the-variants.{At, Absent, Refused}
 
@@ -27,14 +27,18 @@ firstWith t g key (p ∷ ps) =
 unfoldable pub keyFits : Header → List ℕ → Bool
 keyFits h key = leb 1 (h .keys) && eqb (length key) (h .key)
 
--- among the records of a table in chain order
+-- 13, or the first such record among those of a table in chain order
 unfoldable pub scanIn : List ℕ → Header → List ℕ → Found
 scanIn t h key = cond (keyFits h key) (firstWith t (shapeOf h) key (recordsOf t h)) (Refused badArgument)
 
--- what scanning answers, for any bytes, any key and a mark buffer of `room` bytes; the buffer is left as the table check leaves it
+-- what scanning answers, for any bytes, any key and a mark buffer of `room` bytes
 unfoldable pub scanOf : List ℕ → List ℕ → ℕ → Found
 scanOf t key room = cond (eqb (tableAnswer t room) 0) (scanIn t (headerOf t) key) (Refused (tableAnswer t room))
 
 -- the same in document 01's numbers
-unfoldable pub scanNumbers : List ℕ → List ℕ → ℕ → Lookup
-scanNumbers t key room = numbersOf (scanOf t key room)
+unfoldable pub scanLookup : List ℕ → List ℕ → ℕ → Lookup
+scanLookup t key room = lookupOf (scanOf t key room)
+
+-- what scanning leaves in the mark buffer: what the table check does, also where 13, absent or a record is the answer
+abbrev pub scanMarks : List ℕ → List ℕ → List ℕ
+scanMarks t m = tableMarks t m

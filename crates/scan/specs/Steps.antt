@@ -7,7 +7,7 @@ use Rattle.blocks.specs.declared.Shape.{Shape}
 use Rattle.chain.specs.Chain.{chainFrom}
 use Rattle.chain.specs.Links.{nextOf}
 use Rattle.table.specs.Records.{Position, recordsIn}
-use Rattle.table.specs.Rules.{GoodChain}
+use Rattle.table.specs.Steps.{GoodChain}
 
 -- the records of the blocks from number b on
 abbrev pub recordsFrom : List ℕ → Shape → ℕ → List Position

@@ -6,9 +6,8 @@ pub use block::find_in_block;
 pub use found::Found;
 ghost use mathlib.Core.Path.{_≡_};
 ghost use lib.ListN.{length};
-ghost use Rattle.table.specs.Table.{tableMarks};
-ghost use Rattle.scan.specs.Scan.{firstWith, keyFits, scanNumbers, scanOf};
-ghost use Rattle.scan.specs.Found.{numbersOf};
+ghost use Rattle.scan.specs.Found.{lookupOf};
+ghost use Rattle.scan.specs.Scan.{firstWith, keyFits, scanLookup, scanMarks, scanOf};
 ghost use Rattle.scan.specs.Steps.{Searchable, recordsFrom};
 use blocks::Count;
 use blocks::Shape;
@@ -17,10 +16,10 @@ use header::Header;
 use header::refusal;
 use table::check_blocks;
 
-// Where the record with a key is, in any bytes; or the first of the table check's refusals and 13 that
-// applies. The mark buffer holds what the table check leaves in it.
+// Where the record with a key is in any bytes, or that no record has it; or the first of the table check's
+// refusals and 13 that applies. The mark buffer holds what the table check leaves in it.
 pub fn find(table: &[u8], key: &[u8], marks: &mut [u8]) -> Found
-    ensures { λ r. ⌜ (r ≡ scanOf (now (table .entry)) (now (key .entry)) (length (now (marks .entry)))) × (numbersOf r ≡ scanNumbers (now (table .entry)) (now (key .entry)) (length (now (marks .entry)))) × (now (marks .exit) ≡ tableMarks (now (table .entry)) (now (marks .entry))) ⌝ }
+    ensures { λ r. ⌜ (r ≡ scanOf (now (table .entry)) (now (key .entry)) (length (now (marks .entry)))) × (lookupOf r ≡ scanLookup (now (table .entry)) (now (key .entry)) (length (now (marks .entry)))) × (now (marks .exit) ≡ scanMarks (now (table .entry)) (now (marks .entry))) ⌝ }
 {
     let h = header::read(table);
     if h.refusal != refusal::ACCEPTED {

@@ -13,7 +13,8 @@ use Rattle.chain.specs.Chain.{chainFrom}
 use Rattle.chain.specs.Links.{nextOf, usedOf}
 use Rattle.chain.specs.Rules.{Chain, ends, leads}
 use Rattle.chain.proofs.RuleLaws.{follow-is}
-use Rattle.table.specs.Rules.{AcceptedTable, GoodChain}
+use Rattle.table.specs.Rules.{AcceptedTable}
+use Rattle.table.specs.Steps.{GoodChain}
 
 -- all of them
 pub good-begins : (t : List ℕ) (h : Header) → AcceptedTable t h → GoodChain t (shapeOf h) (h .first) (usedOf t h)

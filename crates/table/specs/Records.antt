@@ -1,6 +1,6 @@
 -- The records of a table, one after another in chain order. Places count from 0. Definitions only.
 use Prim.Native.Nat.{ℕ, zero, suc, _+_}
-use mathlib.Core.Bool.{Bool, cond, _&&_}
+use mathlib.Core.Bool.{cond, _&&_}
 use mathlib.Core.List.{List, [], _∷_, _++_}
 use lib.Dec.{eqb}
 use Rattle.header.specs.declared.Header.{Header}
@@ -35,11 +35,7 @@ recordsIn t g (b ∷ bs) = placesFrom b 0 (held (countIn t g b)) ++ recordsIn t 
 abbrev pub recordsOf : List ℕ → Header → List Position
 recordsOf t h = recordsIn t (shapeOf h) (usedOf t h)
 
--- whether two records are at one block and place
-abbrev pub isAt : Position → Position → Bool
-isAt p q = eqb (q .block) (p .block) && eqb (q .place) (p .place)
-
 -- how often a record stands in a list
 unfoldable pub comes : Position → List Position → ℕ
 comes p [] = 0
-comes p (q ∷ qs) = cond (isAt p q) 1 0 + comes p qs
+comes p (q ∷ qs) = cond (eqb (q .block) (p .block) && eqb (q .place) (p .place)) 1 0 + comes p qs

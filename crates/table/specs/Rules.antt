@@ -64,14 +64,6 @@ pub record AcceptedTable (t : List ℕ) (h : Header) : Type 0 where
   -- with key fields, of any two records the earlier has the lesser key
   pub ascending : 1 ≤ h .keys → (i j : ℕ) → i < j → j < length (keysOf t h) → order (getD (keysOf t h) i []) (getD (keysOf t h) j []) ≡ Less
 
--- the blocks of a chain from number b on: it ends, they are in the file, no more than it has, and their counts are good. The used
--- blocks of an accepted table are so, and those that are left of them from any one on
-pub record GoodChain (t : List ℕ) (g : Shape) (b : ℕ) (bs : List ℕ) : Type 0 where
-  pub chain : Chain (nextOf t g) b bs
-  pub inside : Inside (g .blocks) bs
-  pub few : length bs ≤ g .blocks
-  pub counts : (i : ℕ) → i < length bs → countIn t g (getD bs i 0) ≡ Bad → ⊥
-
 -- ---- the mark buffer m by the answer
 
 -- the marks of both chains; behind them the buffer stays

@@ -1,10 +1,10 @@
--- One pass along the used chain: what the functions that make it ask and answer. No rule is stated here. Definitions only.
+-- What the functions that go along a chain, here and in the crates above, ask and answer. No rule is stated here. Definitions only.
 use Prim.Native.Nat.{ℕ, zero, suc, _+_, _≤_, _<_}
 use mathlib.Core.Path.{_≡_}
 use mathlib.Core.Bool.{Bool, true, false, cond, _&&_}
 use mathlib.Core.List.{List, foldl}
 use lib.Dec.{eqb, leb}
-use lib.ListN.{length, replicate}
+use lib.ListN.{length, getD, replicate}
 use Rattle.words.specs.Order.{isLess, order, range}
 use Rattle.header.specs.Refusals.{wrongCount, keyOrder, tooManyRecords, firstBroken}
 use Rattle.header.specs.Header.{mostRecords, mostBlocks}
@@ -18,6 +18,7 @@ use Rattle.blocks.specs.declared.count.Count.the-variants.{Records, Bad}
 use Rattle.chain.specs.Chain.{chainFrom, names, lastOf}
 use Rattle.chain.specs.Links.{nextOf, previousOf, usedOf}
 use Rattle.chain.specs.Marks.{unmarked, usedMark, freeMark, marksOf}
+use Rattle.chain.specs.Rules.{Chain, Inside}
 use Rattle.chain.specs.Steps.{takesAll, marked, anyTwo}
 use Rattle.table.specs.Table.{tableChained}
 use Rattle.table.specs.declared.keys.Keys.{Keys}
@@ -91,6 +92,14 @@ tallyAnswer tally records =
     (firstBroken (isOrdered (tally .keys)) keyOrder 0))
 
 -- ---- chains
+
+-- the blocks of a chain from number b on: it ends, they are in the file, no more than it has, and their counts are good. The used
+-- blocks of an accepted table are so, and those that are left of them from any one on
+pub record GoodChain (t : List ℕ) (g : Shape) (b : ℕ) (bs : List ℕ) : Type 0 where
+  pub chain : Chain (nextOf t g) b bs
+  pub inside : Inside (g .blocks) bs
+  pub few : length bs ≤ g .blocks
+  pub counts : (i : ℕ) → i < length bs → countIn t g (getD bs i 0) ≡ Bad → ⊥
 
 -- what following the used chain asks: a mark for each block, and a key that is part of its record
 pub record Followable (t : List ℕ) (g : Shape) (key : ℕ) (m : List ℕ) : Type 0 where

@@ -9,22 +9,22 @@ use Rattle.blocks.specs.Counts.{countIn}
 use Rattle.blocks.specs.declared.Shape.{Shape}
 use Rattle.blocks.specs.declared.count.Count.the-variants.{Records}
 use Rattle.blocks.proofs.ShapeLaws.{head-inside}
-use Rattle.cursor.specs.Cursor.{mayEnter, firstFrom}
+use Rattle.cursor.specs.Cursor.{inReach, firstFrom}
 use Rattle.cursor.specs.declared.Cursor.{Cursor}
-use Rattle.cursor.proofs.CursorLaws.{enter-block, enter-moves, step-outside, step-bad, step-past, step-stays, step-moves}
+use Rattle.cursor.proofs.CursorLaws.{reach-block, reach-moves, step-outside, step-bad, step-past, step-stays, step-moves}
 use Rattle.cursor.proofs.next_record.Statement.{statement}
 use Rattle.cursor.proofs.next_record.Tie as tie
 
 cast-block : tie.Need-cast-block
 cast-block c = search needs
 
-may-enter-requires : tie.Need-may-enter-requires
-may-enter-requires c κs = search needs
+in-reach-requires : tie.Need-in-reach-requires
+in-reach-requires c κs = search needs
 
 returns : tie.Need-returns
 returns c =
     let v = c .before .before .before .before .args in
-    sym (step-outside (v .table .now) (v .shape) (v .cursor) (sym (c .before .may-enter .ensures) ∙ not-true _ (c .if1 .taken)))
+    sym (step-outside (v .table .now) (v .shape) (v .cursor) (sym (c .before .in-reach .ensures) ∙ not-true _ (c .if1 .taken)))
 
 -- where the cursor's block is in the file
 module _ (c : tie.Else1) where
@@ -37,11 +37,11 @@ module _ (c : tie.Else1) where
   abbrev C : Cursor
   C = c .before .before .before .before .args .cursor
 
-  enters : mayEnter G (C .block) (C .moves) ≡ true
-  enters = sym (c .before .may-enter .ensures) ∙ not-false _ (c .if1 .left)
+  enters : inReach G (C .block) (C .moves) ≡ true
+  enters = sym (c .before .in-reach .ensures) ∙ not-false _ (c .if1 .left)
 
   here : (1 ≤ C .block) × (C .block ≤ G .blocks)
-  here = enter-block G (C .block) (C .moves) enters
+  here = reach-block G (C .block) (C .moves) enters
 
 count-in-requires : tie.Need-count-in-requires
 count-in-requires c κs = (here c .0, here c .1, c .before .before .before .before .pre)
@@ -91,7 +91,7 @@ next-of-requires c κs =
 add-first-from : tie.Need-add-first-from
 add-first-from c =
     let d = D (c .before .before .before .before .before .before) in
-    let l = enter-moves (G d) (C d .block) (C d .moves) (enters d) in
+    let l = reach-moves (G d) (C d .block) (C d .moves) (enters d) in
     search needs
 
 first-from-requires : tie.Need-first-from-requires
@@ -110,7 +110,7 @@ next-record-spec =
     tie.close
     (tie.spec
     cast-block
-    may-enter-requires
+    in-reach-requires
     returns
     count-in-requires
     enum-known-count

@@ -12,7 +12,7 @@ use Rattle.blocks.specs.declared.count.Count.the-variants.{Records, Bad}
 use Rattle.blocks.proofs.ShapeLaws.{head-inside}
 use Rattle.chain.specs.Links.{nextOf}
 use Rattle.table.specs.Records.{placesFrom}
-use Rattle.table.specs.Rules.{GoodChain}
+use Rattle.table.specs.Steps.{GoodChain}
 use Rattle.table.proofs.KeyLaws.{run-inside}
 use Rattle.scan.specs.Found.{isRecord}
 use Rattle.scan.specs.Scan.{firstWith}

@@ -10,11 +10,11 @@ use borrow.Author.Tests.{not-true, not-false}
 use Rattle.blocks.specs.Shape.{Sound}
 use Rattle.blocks.specs.declared.Shape.{Shape}
 use Rattle.blocks.proofs.ShapeLaws.{head-inside}
-use Rattle.cursor.specs.Cursor.{mayEnter, firstFrom}
+use Rattle.cursor.specs.Cursor.{inReach, firstFrom}
 use Rattle.cursor.specs.declared.Cursor.{Cursor}
 use Rattle.cursor.specs.declared.Step.{Step}
 use Rattle.cursor.specs.declared.Step.the-variants.{End}
-use Rattle.cursor.proofs.CursorLaws.{enter-block, enter-moves, from-end, from-outside, from-bad, from-record, from-empty}
+use Rattle.cursor.proofs.CursorLaws.{reach-block, reach-moves, from-end, from-outside, from-bad, from-record, from-empty}
 use Rattle.cursor.proofs.moves.first_from.Statement.{statement}
 use Rattle.cursor.proofs.moves.first_from.Tie as tie
 
@@ -27,16 +27,16 @@ abbrev μ-loop : tie.MeasureT-loop
 loop-holds : tie.Need-loop-holds Inv-loop μ-loop
 loop-holds c = refl
 
-may-enter-requires : tie.Need-may-enter-requires Inv-loop μ-loop
-may-enter-requires c κs = search needs
+in-reach-requires : tie.Need-in-reach-requires Inv-loop μ-loop
+in-reach-requires c κs = search needs
 
 returns : tie.Need-returns Inv-loop μ-loop
 returns c =
     let l = c .before .before .before .loop in
     let v = c .before .before .before .before .before .args in
-    sym (l .inv ∙ from-outside (v .table .now) (v .shape) (v .back) (l .made) (l .block) (c .before .before .loop-test .taken) (sym (c .before .may-enter .ensures) ∙ not-true _ (c .if1 .taken)))
+    sym (l .inv ∙ from-outside (v .table .now) (v .shape) (v .back) (l .made) (l .block) (c .before .before .loop-test .taken) (sym (c .before .in-reach .ensures) ∙ not-true _ (c .if1 .taken)))
 
--- where the block may be entered
+-- where the block is in reach
 module _ (c : tie.Else1 Inv-loop μ-loop) where
   abbrev T : List ℕ
   T = c .before .before .before .before .before .args .table .now
@@ -62,11 +62,11 @@ module _ (c : tie.Else1 Inv-loop μ-loop) where
   met : B ≡ 0 → ⊥
   met = c .before .before .loop-test .taken
 
-  enters : mayEnter G B M ≡ true
-  enters = sym (c .before .may-enter .ensures) ∙ not-false _ (c .if1 .left)
+  enters : inReach G B M ≡ true
+  enters = sym (c .before .in-reach .ensures) ∙ not-false _ (c .if1 .left)
 
   here : (1 ≤ B) × (B ≤ G .blocks)
-  here = enter-block G B M enters
+  here = reach-block G B M enters
 
 count-in-requires : tie.Need-count-in-requires Inv-loop μ-loop
 count-in-requires c κs = (here c .0, here c .1, sound c)
@@ -97,10 +97,10 @@ next-of-requires c κs =
     (here d .0, here d .1, head-inside (T d) (G d) (sound d) (B d) (here d .0) (here d .1))
 
 add-made : tie.Need-add-made Inv-loop μ-loop
-add-made c = let d = c .before .before .before .before .before .before in let l = enter-moves (G d) (B d) (M d) (enters d) in search needs
+add-made c = let d = c .before .before .before .before .before .before in let l = reach-moves (G d) (B d) (M d) (enters d) in search needs
 
 loop-less : tie.Need-loop-less Inv-loop μ-loop
-loop-less c = let d = c .before .before .before .before .before .before in let l = enter-moves (G d) (B d) (M d) (enters d) in omega arith
+loop-less c = let d = c .before .before .before .before .before .before in let l = reach-moves (G d) (B d) (M d) (enters d) in omega arith
 
 loop-again : tie.Need-loop-again Inv-loop μ-loop
 loop-again c =
@@ -126,7 +126,7 @@ first-from-spec =
     Inv-loop
     μ-loop
     loop-holds
-    may-enter-requires
+    in-reach-requires
     returns
     count-in-requires
     enum-known-count

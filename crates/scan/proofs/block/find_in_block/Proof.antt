@@ -9,7 +9,7 @@ use borrow.Author.Needs.{needs}
 use Rattle.words.specs.Order.{isSame}
 use Rattle.table.specs.Records.{placesFrom}
 use Rattle.scan.specs.Scan.{firstWith}
-use Rattle.scan.proofs.FirstLaws.{hasKey, places-none, places-hit, places-miss}
+use Rattle.scan.proofs.FirstLaws.{isSought, places-none, places-hit, places-miss}
 use Rattle.scan.proofs.block.find_in_block.Statement.{statement}
 use Rattle.scan.proofs.block.find_in_block.Tie as tie
 
@@ -42,7 +42,7 @@ is-same-requires c κs = search needs
 tested : (c : tie.After-is-same Inv-loop μ-loop) →
     let l = c .before .before .before .before .loop in
     let v = c .before .before .before .before .before .before .before .args in
-    hasKey (v .table .now) (v .shape) (v .key .now) (record { block = v .block; place = l .place }) ≡ c .is-same .result
+    isSought (v .table .now) (v .shape) (v .key .now) (record { block = v .block; place = l .place }) ≡ c .is-same .result
 tested c =
     let v = c .before .before .before .before .before .before .before .args in
     sym (c .is-same .ensures
