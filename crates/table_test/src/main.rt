@@ -2,8 +2,6 @@
 // file `stdin`, written from document 01.
 // Its functions are proved safe and promise nothing more: what they print is compared with the file `stdout`.
 mod cases;
-mod lines;
-mod print;
 
 use libc::STDIN_FILENO;
 

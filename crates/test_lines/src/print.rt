@@ -10,7 +10,7 @@ pub fn letter(b: u8) {
     say(&s);
 }
 
-pub fn number(n: u8) {
+pub fn number(n: u16) {
     io::print_decimal(STDOUT_FILENO, n as u64);
 }
 

@@ -2,8 +2,8 @@
 use Prim.Native.Nat.{_-_, _≤_}
 use lib.ListN.{length}
 use borrow.Author.Needs.{needs}
-use Rattle.table_test.proofs.print.bytes.Statement.{statement}
-use Rattle.table_test.proofs.print.bytes.Tie as tie
+use Rattle.test_lines.proofs.print.bytes.Statement.{statement}
+use Rattle.test_lines.proofs.print.bytes.Tie as tie
 
 abbrev Inv-loop : tie.InvT-loop
 Inv-loop s i₀ i = i ≤ length s

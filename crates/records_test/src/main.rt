@@ -1,0 +1,14 @@
+// Records of tables one after another, and keys sought by a scan, on tables accepted and refused. The tables are in
+// the file `stdin`, written from document 01.
+// Its functions are proved safe and promise nothing more: what they print is compared with the file `stdout`.
+mod cases;
+mod keys;
+mod records;
+
+use libc::STDIN_FILENO;
+
+fn main() {
+    let mut text = io::large_buffer();
+    let n = io::read_full(STDIN_FILENO, &mut text);
+    cases::run(&text[..n]);
+}
