@@ -17,11 +17,13 @@ use Rattle.blocks.proofs.ShapeLaws.{shape-blocks}
 use Rattle.chain.specs.Links.{nextOf, usedOf}
 use Rattle.table.specs.Records.{Position, held, placesFrom, recordsIn, recordsOf}
 use Rattle.table.specs.Table.{tableAnswer}
+use Rattle.table.specs.Rules.{AcceptedTable}
 use Rattle.table.specs.Steps.{GoodChain}
 use Rattle.table.proofs.GoodChainLaws.{Block, good-begins, good-none, good-some}
+use Rattle.table.proofs.OnceLaws.{record-once, record-no-more}
 use Rattle.table.proofs.RuleLaws.{table-gives, accepted-table}
 use Rattle.cursor.specs.Cursor.{atEnd, standing, inReach, firstFrom, startOf, stepOf}
-use Rattle.cursor.specs.Rules.{positionOf, Gives, none, one}
+use Rattle.cursor.specs.Rules.{positionOf, Gives, none, one, EveryRecord}
 use Rattle.cursor.specs.declared.Cursor.{Cursor}
 use Rattle.cursor.specs.declared.Step.{Step}
 use Rattle.cursor.specs.declared.Step.the-variants.{Record}
@@ -68,10 +70,21 @@ pub gives-only : (t : List ℕ) (s : Step) (ps qs : List Position) → Gives t s
 gives-only t s ps qs none none = refl
 gives-only t s ps qs (one {c = c} {ps = us} g) (one {ps = vs} k) = ap (λ (r : List Position). positionOf c ∷ r) (gives-only t (stepOf t c) us vs g k)
 
--- over an accepted table every record comes, in chain order, and then the end; nothing is refused
-pub stepping : (t : List ℕ) (room : ℕ) → tableAnswer t room ≡ 0 → Gives t (startOf t) (recordsOf t (headerOf t))
+-- ---- over an accepted table every record comes once, in chain order, and then the end; nothing is refused
+
+start-gives : (t : List ℕ) → headerOf t .refusal ≡ 0 → AcceptedTable t (headerOf t) → Gives t (startOf t) (recordsOf t (headerOf t))
+start-gives t z a =
+    let h = headerOf t in
+    rw (start-accepted t z) (chain-gives t z (usedOf t h) (h .first) 0 (good-begins t h a) (omega (arith, a .few-blocks, shape-blocks h)) atEnd)
+
+pub stepping : (t : List ℕ) (room : ℕ) → tableAnswer t room ≡ 0 → EveryRecord t (headerOf t)
 stepping t room e =
     let h = headerOf t in
-    let z : h .refusal ≡ 0 = accepted-takes t (table-gives t room e .header) in
     let a = accepted-table t room e in
-    rw (start-accepted t z) (chain-gives t z (usedOf t h) (h .first) 0 (good-begins t h a) (omega (arith, a .few-blocks, shape-blocks h)) atEnd)
+    let g = start-gives t (accepted-takes t (table-gives t room e .header)) a in
+    record {
+      gives = g;
+      exactly = λ ps k. gives-only t (startOf t) ps (recordsOf t h) k g;
+      once = λ p. record-once p t h a;
+      no-more = λ p. record-no-more p t h a;
+    }

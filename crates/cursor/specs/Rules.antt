@@ -3,11 +3,15 @@ use Prim.Native.Nat.{ℕ, suc, _≤_, _<_}
 use mathlib.Core.Path.{_≡_}
 use mathlib.Core.Bool.{false}
 use mathlib.Core.List.{List, [], _∷_}
+use Rattle.header.specs.declared.Header.{Header}
+use Rattle.blocks.specs.Shape.{shapeOf}
 use Rattle.blocks.specs.Counts.{countIn}
 use Rattle.blocks.specs.declared.Shape.{Shape}
 use Rattle.blocks.specs.declared.count.Count.the-variants.{Records}
-use Rattle.table.specs.Records.{Position}
-use Rattle.cursor.specs.Cursor.{atEnd, stepOf}
+use Rattle.chain.specs.Chain.{times}
+use Rattle.chain.specs.Links.{usedOf}
+use Rattle.table.specs.Records.{Position, held, recordsOf, comes}
+use Rattle.cursor.specs.Cursor.{atEnd, startOf, stepOf}
 use Rattle.cursor.specs.declared.Cursor.{Cursor}
 use Rattle.cursor.specs.declared.Step.{Step}
 use Rattle.cursor.specs.declared.Step.the-variants.{Record, End, Refused}
@@ -53,3 +57,11 @@ positionOf c = record { block = c .block; place = c .place }
 pub data Gives (t : List ℕ) : Step → List Position → Type 0 where
   none : Gives t (End atEnd) []
   one : {c : Cursor} {ps : List Position} → Gives t (stepOf t c) ps → Gives t (Record c) (positionOf c ∷ ps)
+
+-- every record comes once, in chain order: from the start on stepping gives the records of the table and no other list, a record that
+-- a used block counts is among them once, and none is twice
+pub record EveryRecord (t : List ℕ) (h : Header) : Type 0 where
+  pub gives : Gives t (startOf t) (recordsOf t h)
+  pub exactly : (ps : List Position) → Gives t (startOf t) ps → ps ≡ recordsOf t h
+  pub once : (p : Position) → times (p .block) (usedOf t h) ≡ 1 → p .place < held (countIn t (shapeOf h) (p .block)) → comes p (recordsOf t h) ≡ 1
+  pub no-more : (p : Position) → comes p (recordsOf t h) ≤ 1
