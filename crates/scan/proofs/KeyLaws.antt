@@ -10,9 +10,7 @@ use lib.Dec.{eqb}
 use lib.ListN.{length, getD}
 use borrow.Author.Tests.{eqb-true, eqb-false}
 use Rattle.words.specs.Order.{isSame, order}
-use Rattle.words.specs.declared.Order.{Order}
-use Rattle.words.specs.declared.Order.the-variants.{Less, Same, More}
-use Rattle.words.proofs.OrderLaws.{order-refl, order-same}
+use Rattle.words.proofs.OrderLaws.{is-same, order-refl, order-same}
 use Rattle.header.specs.Header.{headerOf}
 use Rattle.header.specs.declared.Header.{Header}
 use Rattle.blocks.specs.Shape.{shapeOf}
@@ -30,12 +28,6 @@ use Rattle.scan.proofs.FirstLaws.{isSought}
 use Rattle.scan.proofs.ScanLaws.{fits-gives, scan-refused, scan-unfit, scan-first}
 
 -- ---- the test of a key is its equality
-
-is-same : (o : Order) → isSame o ≡ true → o ≡ Same
-unfolding isSame
-is-same Less e = absurd (false≢true e)
-is-same Same e = refl
-is-same More e = absurd (false≢true e)
 
 module _ (t : List ℕ) (g : Shape) (key : List ℕ) where
   key-gives : (p : Position) → isSought t g key p ≡ true → keyAt t g (length key) p ≡ key

@@ -7,23 +7,20 @@ use Rattle.header.specs.declared.Header.{Header}
 use Rattle.blocks.specs.Shape.{shapeOf}
 use Rattle.blocks.specs.Counts.{countIn}
 use Rattle.blocks.specs.declared.Shape.{Shape}
-use Rattle.blocks.specs.declared.count.Count.{Count}
-use Rattle.blocks.specs.declared.count.Count.the-variants.{Records, Bad}
+use Rattle.blocks.specs.declared.count.Count.the-variants.{Records}
 use Rattle.chain.specs.Chain.{chainFrom}
 use Rattle.chain.specs.Links.{nextOf, usedOf}
 use Rattle.chain.specs.Rules.{Chain, ends, leads}
 use Rattle.chain.proofs.RuleLaws.{follow-is}
+use Rattle.table.specs.Records.{held}
 use Rattle.table.specs.Rules.{AcceptedTable}
 use Rattle.table.specs.Steps.{GoodChain}
+use Rattle.table.proofs.RecordLaws.{not-bad-good, good-count}
 
 -- all of them
 pub good-begins : (t : List ℕ) (h : Header) → AcceptedTable t h → GoodChain t (shapeOf h) (h .first) (usedOf t h)
 unfolding shapeOf
 good-begins t h a = record { chain = a .chain; inside = a .inside; few = a .few-blocks; counts = a .counts }
-
-count-good : (c : Count) → (c ≡ Bad → ⊥) → (n : ℕ) × (c ≡ Records n)
-count-good (Records n) h = (n, refl)
-count-good Bad h = absurd (h refl)
 
 module _ (t : List ℕ) (g : Shape) where
   -- block b is in the file, its count is good, and from its next number on come the others
@@ -47,13 +44,13 @@ module _ (t : List ℕ) (g : Shape) where
     where
       go : (b x : ℕ) → Chain (nextOf t g) b (x ∷ bs) → GoodChain t g b (x ∷ bs) → (b ≡ x) × Block x bs
       go b x (leads low k) c =
-          let n = count-good (countIn t g x) (c .counts 0 (omega arith)) in (
+          let n = countIn t g x in (
             refl,
             record {
               low = low;
               high = c .inside 0 (omega arith) .1;
-              count = n .0;
-              counted = n .1;
+              count = held n;
+              counted = good-count n (not-bad-good n (c .counts 0 (omega arith)));
               onward = record {
                 chain = k;
                 inside = λ i l. c .inside (suc i) (suc-le-suc l);

@@ -9,11 +9,10 @@ use native.Mathlib.Omega.{arith}
 use lib.ListN.{length, getD, length-append, List·getD-append}
 use lib.Seq.{getD-append-add}
 use Rattle.words.specs.Order.{isLess, order}
-use Rattle.words.specs.declared.Order.{Order}
-use Rattle.words.specs.declared.Order.the-variants.{Less, Same, More}
+use Rattle.words.specs.declared.Order.the-variants.{Less}
 use Rattle.words.proofs.Cases.{lt-or-ge}
 use Rattle.words.proofs.Conjunctions.{both, join}
-use Rattle.words.proofs.OrderLaws.{less-trans}
+use Rattle.words.proofs.OrderLaws.{is-less, less-trans}
 use Rattle.blocks.specs.Counts.{countIn}
 use Rattle.blocks.specs.declared.Shape.{Shape}
 use Rattle.blocks.specs.declared.count.Count.{Count}
@@ -44,10 +43,16 @@ good-not-bad : (c : Count) → isGood c ≡ true → c ≡ Bad → ⊥
 unfolding isGood
 good-not-bad c e f = false≢true (rw f at e)
 
-not-bad-good : (c : Count) → (c ≡ Bad → ⊥) → isGood c ≡ true
+pub not-bad-good : (c : Count) → (c ≡ Bad → ⊥) → isGood c ≡ true
 unfolding isGood
 not-bad-good (Records n) h = refl
 not-bad-good Bad h = absurd (h refl)
+
+-- a good count is one of records
+pub good-count : (c : Count) → isGood c ≡ true → c ≡ Records (held c)
+unfolding isGood held
+good-count (Records n) e = refl
+good-count Bad e = absurd (false≢true e)
 
 -- every count is good exactly when none is bad
 module _ (t : List ℕ) (g : Shape) (bs : List ℕ) where
@@ -61,12 +66,6 @@ module _ (t : List ℕ) (g : Shape) (bs : List ℕ) where
   counts-take h = every-takes good bs (λ i l. not-bad-good (countIn t g (getD bs i 0)) (h i l))
 
 -- ---- keys
-
-is-less : (o : Order) → isLess o ≡ true → o ≡ Less
-unfolding isLess
-is-less Less e = refl
-is-less Same e = absurd (false≢true e)
-is-less More e = absurd (false≢true e)
 
 from-gives : (before : List ℕ) (keys : List (List ℕ)) → ascendFrom before keys ≡ true → Ascending (before ∷ keys)
 unfolding ascendFrom

@@ -24,13 +24,8 @@ use Rattle.table.specs.Steps.{nextKey, isOrdered, KeyInside, unordered, 
 use Rattle.table.specs.declared.keys.Keys.{Keys}
 use Rattle.table.specs.declared.keys.Keys.the-variants.{None}
 use Rattle.table.specs.declared.tally.Tally.{Tally}
+use Rattle.table.proofs.RecordLaws.{good-count}
 use Rattle.table.proofs.KeyLaws.{passed, ascendAfter, run-keyless, run-passed, passed-ascend, run-stays}
-
--- a good count is one of records
-good-count : (c : Count) → isGood c ≡ true → c ≡ Records (held c)
-unfolding isGood held
-good-count (Records n) e = refl
-good-count Bad e = absurd (false≢true e)
 
 module _ (t : List ℕ) (g : Shape) (key : ℕ) where
   -- ---- one block

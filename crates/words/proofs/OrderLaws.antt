@@ -2,12 +2,12 @@
 use Prim.Native.Nat.{ℕ, _<_}
 use mathlib.Core.Path.{_≡_, refl, sym, _∙_}
 use mathlib.Core.List.{List, [], _∷_}
-use mathlib.Core.Bool.{Bool, true, false, cond}
+use mathlib.Core.Bool.{Bool, true, false, cond, false≢true}
 use native.Mathlib.Nat.{le-antisymm}
 use native.Mathlib.Omega.{arith}
 use lib.Dec.{ltb}
 use borrow.Author.Tests.{ltb-true, ltb-false, lt-ltb, le-ltb}
-use Rattle.words.specs.Order.{order}
+use Rattle.words.specs.Order.{isLess, isSame, order}
 use Rattle.words.specs.declared.Order.{Order}
 use Rattle.words.specs.declared.Order.the-variants.{Less, Same, More}
 
@@ -19,6 +19,22 @@ more≢same e = let z : _≡_ {A = ℕ} 0 1 = cc in omega arith
 
 pub less≢same : Less ≡ Same → ⊥
 less≢same e = let z : _≡_ {A = ℕ} 0 1 = cc in omega arith
+
+-- ---- what the tests of an order say
+
+pub is-less : (o : Order) → isLess o ≡ true → o ≡ Less
+unfolding isLess
+is-less Less e = refl
+is-less Same e = absurd (false≢true e)
+is-less More e = absurd (false≢true e)
+
+pub is-same : (o : Order) → isSame o ≡ true → o ≡ Same
+unfolding isSame
+is-same Less e = absurd (false≢true e)
+is-same Same e = refl
+is-same More e = absurd (false≢true e)
+
+-- ---- the order of two ranges
 
 -- what the first bytes of two ranges tell
 data First (x y : ℕ) : Bool → Bool → Type 0 where
