@@ -64,11 +64,11 @@ module _ (t : List ℕ) where
     broken-2 e = answered 2 (rw (k1, e))
 
     module _ (k2 : isTable (storedOf t) ≡ true) where
-      pub broken-3 : knownVersion (storedOf t) ≡ false → headerOf t ≡ refusedWith 3
+      pub broken-3 : knownVersion (storedOf t .version) ≡ false → headerOf t ≡ refusedWith 3
       unfolding headerAnswer answerWith
       broken-3 e = answered 3 (rw (k1, k2, e))
 
-      module _ (k3 : knownVersion (storedOf t) ≡ true) where
+      module _ (k3 : knownVersion (storedOf t .version) ≡ true) where
         pub broken-4 : unencrypted t (encryptionAt (storedOf t .version)) ≡ false → headerOf t ≡ refusedWith 4
         unfolding headerAnswer answerWith
         broken-4 e = answered 4 (rw (k1, k2, k3, e))
@@ -79,11 +79,11 @@ module _ (t : List ℕ) where
           broken-5 e = answered 5 (rw (k1, k2, k3, k4, e))
 
           module _ (k5 : limitsKept (storedOf t) ≡ true) where
-            pub broken-6 : lengthRight (length t) (storedOf t) ≡ false → headerOf t ≡ refusedWith 6
+            pub broken-6 : lengthRight (length t) (storedOf t .header) (storedOf t .blocks) (storedOf t .units) ≡ false → headerOf t ≡ refusedWith 6
             unfolding headerAnswer answerWith
             broken-6 e = answered 6 (rw (k1, k2, k3, k4, k5, e))
 
-            module _ (k6 : lengthRight (length t) (storedOf t) ≡ true) where
+            module _ (k6 : lengthRight (length t) (storedOf t .header) (storedOf t .blocks) (storedOf t .units) ≡ true) where
               pub last-rule : headerOf t ≡ fieldsAnswer t (storedOf t)
               unfolding headerAnswer answerWith fieldsAnswer
               last-rule = go (fieldsRight t (storedOf t)) refl

@@ -6,7 +6,7 @@ use lib.Dec.{eqb, leb}
 use lib.ListN.{length, replicate}
 use Rattle.words.specs.Zeros.{allZero}
 use Rattle.header.specs.Refusals.{tooShort, notATable, unknownVersion, encrypted, headerLimit, wrongLength, fieldRule, firstBroken}
-use Rattle.header.specs.Stored.{storedOf, blockSize, encryptionAt, areaAt, namesAt}
+use Rattle.header.specs.Stored.{storedOf, unit, blockSize, encryptionAt, areaAt, namesAt}
 use Rattle.header.specs.Fields.{widthAt, kindAt, widthSum, offsetsOf, fieldsRight}
 use Rattle.header.specs.declared.Header.{Header}
 use Rattle.header.specs.declared.stored.Stored.{Stored}
@@ -58,9 +58,9 @@ longEnough t = leb leastHeader (length t)
 unfoldable pub isTable : Stored → Bool
 isTable s = eqb (s .kind) 0 || eqb (s .kind) 2
 
--- 3: byte 39 is 03 to 0B
-unfoldable pub knownVersion : Stored → Bool
-knownVersion s = leb leastVersion (s .version) && leb (s .version) mostVersion
+-- 3, and 23 of an index: byte 39 is 03 to 0B
+unfoldable pub knownVersion : ℕ → Bool
+knownVersion version = leb leastVersion version && leb version mostVersion
 
 -- 4: the four encryption bytes are zero
 unfoldable pub unencrypted : List ℕ → ℕ → Bool
@@ -85,9 +85,9 @@ limitsKept s =
     && leb (s .records) mostRecords
     && keyedRight s
 
--- 6: the length is the header and the blocks, exactly
-unfoldable pub lengthRight : ℕ → Stored → Bool
-lengthRight long s = eqb long (s .header + s .blocks * blockSize s)
+-- 6, and 26 of an index: the length is the header and the blocks, exactly
+unfoldable pub lengthRight : ℕ → ℕ → ℕ → ℕ → Bool
+lengthRight long header blocks units = eqb long (header + blocks * (units * unit))
 
 -- 7: fieldsRight, of Fields
 
@@ -96,10 +96,10 @@ unfoldable pub headerAnswer : List ℕ → ℕ
 headerAnswer t =
     firstBroken (longEnough t) tooShort
     (firstBroken (isTable (storedOf t)) notATable
-    (firstBroken (knownVersion (storedOf t)) unknownVersion
+    (firstBroken (knownVersion (storedOf t .version)) unknownVersion
     (firstBroken (unencrypted t (encryptionAt (storedOf t .version))) encrypted
     (firstBroken (limitsKept (storedOf t)) headerLimit
-    (firstBroken (lengthRight (length t) (storedOf t)) wrongLength
+    (firstBroken (lengthRight (length t) (storedOf t .header) (storedOf t .blocks) (storedOf t .units)) wrongLength
     (firstBroken (fieldsRight t (storedOf t)) fieldRule 0))))))
 
 -- ---- the answer

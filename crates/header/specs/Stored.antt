@@ -26,8 +26,11 @@ storedOf t =
     }
 
 -- the block size in bytes: byte 05 counts units of 1,024
+abbrev pub unit : ℕ
+unit = 1024
+
 abbrev pub blockSize : Stored → ℕ
-blockSize s = s .units * 1024
+blockSize s = s .units * unit
 
 -- versions 03 and 04 have another layout than 05..0B
 abbrev pub early : ℕ → Bool

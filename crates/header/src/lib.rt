@@ -14,7 +14,13 @@ pub use field::field_of;
 pub use kind::FieldKind;
 pub use kind::StoredKind;
 pub use rules::BLOCK_HEAD;
+pub use rules::MOST_BLOCKS;
 pub use rules::MOST_RECORDS;
+pub use rules::MOST_UNITS;
+pub use rules::is_length_right;
+pub use rules::known_version;
+pub use stored::block_bytes;
+pub use stored::block_size;
 ghost use mathlib.Core.Path.{_≡_};
 ghost use Rattle.header.specs.Header.{headerOf};
 use crate::answer::refused;
@@ -60,7 +66,7 @@ pub fn read(t: &[u8]) -> Header
     if !rules::is_table(s) {
         return refused(refusal::NOT_A_TABLE);
     }
-    if !rules::known_version(s) {
+    if !rules::known_version(s.version) {
         return refused(refusal::UNKNOWN_VERSION);
     }
     if !rules::is_unencrypted(t, stored::encryption_at(s.version)) {
@@ -69,7 +75,7 @@ pub fn read(t: &[u8]) -> Header
     if !rules::limits_kept(s) {
         return refused(refusal::HEADER_LIMIT);
     }
-    let whole = rules::is_length_right(t.len(), s);
+    let whole = rules::is_length_right(t.len(), s.header, s.blocks, s.units);
     let room = rules::has_room(s);
     if !whole {
         return refused(refusal::WRONG_LENGTH);

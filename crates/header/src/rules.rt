@@ -25,11 +25,11 @@ const LEAST_VERSION: u8 = 0x03;
 
 const MOST_VERSION: u8 = 0x0b;
 
-const MOST_UNITS: u8 = 4;
+pub const MOST_UNITS: u8 = 4;
 
 pub const BLOCK_HEAD: u32 = 6;
 
-const MOST_BLOCKS: u16 = 32767;
+pub const MOST_BLOCKS: u16 = 32767;
 
 const MOST_FIELDS: u16 = 255;
 
@@ -42,11 +42,11 @@ pub fn is_table(s: Stored) -> bool
     (s.kind == KEYED) | (s.kind == UNKEYED)
 }
 
-// Rule 3.
-pub fn known_version(s: Stored) -> bool
-    ensures { λ r. ⌜ r ≡ knownVersion s ⌝ }
+// Rule 3, and 23 of an index.
+pub fn known_version(version: u8) -> bool
+    ensures { λ r. ⌜ r ≡ knownVersion version ⌝ }
 {
-    (LEAST_VERSION <= s.version) & (s.version <= MOST_VERSION)
+    (LEAST_VERSION <= version) & (version <= MOST_VERSION)
 }
 
 // Rule 4, of the four bytes at a place.
@@ -86,14 +86,12 @@ pub fn limits_kept(s: Stored) -> bool
         & is_keyed_right(s)
 }
 
-// Rule 6, of a file's length.
-pub fn is_length_right(long: usize, s: Stored) -> bool
-    ensures { λ r. ⌜ r ≡ lengthRight long s ⌝ }
+// Rule 6, and 26 of an index, of a file's length.
+pub fn is_length_right(long: usize, header: u16, blocks: u16, units: u8) -> bool
+    ensures { λ r. ⌜ r ≡ lengthRight long header blocks units ⌝ }
 {
-    let block = block_size(s.units) as usize;
-    let blocks = s.blocks as usize;
-    let header = s.header as usize;
-    long == header + blocks * block
+    let block = block_size(units) as usize;
+    long == header as usize + blocks as usize * block
 }
 
 // Whether the names begin inside the header: where they don't, rule 7 is broken and no field is read.

@@ -1,13 +1,13 @@
 -- Byte order is a strict total order: same exactly when equal, antisymmetric, transitive. Assumes nothing.
 use Prim.Native.Nat.{ℕ, _<_}
-use mathlib.Core.Path.{_≡_, refl, sym, _∙_}
+use mathlib.Core.Path.{_≡_, refl, sym, ap, _∙_}
 use mathlib.Core.List.{List, [], _∷_}
 use mathlib.Core.Bool.{Bool, true, false, cond, false≢true}
 use native.Mathlib.Nat.{le-antisymm}
 use native.Mathlib.Omega.{arith}
 use lib.Dec.{ltb}
 use borrow.Author.Tests.{ltb-true, ltb-false, lt-ltb, le-ltb}
-use Rattle.words.specs.Order.{isLess, isSame, order}
+use Rattle.words.specs.Order.{isAtMost, isLess, isSame, order}
 use Rattle.words.specs.declared.Order.{Order}
 use Rattle.words.specs.declared.Order.the-variants.{Less, Same, More}
 
@@ -33,6 +33,16 @@ unfolding isSame
 is-same Less e = absurd (false≢true e)
 is-same Same e = refl
 is-same More e = absurd (false≢true e)
+
+pub at-most : (o : Order) → isAtMost o ≡ true → o ≡ More → ⊥
+unfolding isAtMost
+at-most o e f = false≢true (rw f at e)
+
+pub not-at-most : (o : Order) → isAtMost o ≡ false → o ≡ More
+unfolding isAtMost
+not-at-most Less e = absurd (false≢true (sym e))
+not-at-most Same e = absurd (false≢true (sym e))
+not-at-most More e = refl
 
 -- ---- the order of two ranges
 
@@ -96,6 +106,11 @@ order-turned (x ∷ xs) (y ∷ ys) = go (first x y) (order-turned xs ys)
 pub order-antisymm : (a b : List ℕ) → order a b ≡ Less → order b a ≡ Less → ⊥
 unfolding turned
 order-antisymm a b p q = more≢less (rw p at (sym (order-turned a b)) ∙ q)
+
+-- a range that is not at most another is greater
+pub above-less : (a b : List ℕ) → isAtMost (order a b) ≡ false → order b a ≡ Less
+unfolding turned
+above-less a b e = order-turned a b ∙ ap turned (not-at-most (order a b) e)
 
 pub less-trans : (a b c : List ℕ) → order a b ≡ Less → order b c ≡ Less → order a c ≡ Less
 unfolding order

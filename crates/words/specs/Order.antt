@@ -24,6 +24,12 @@ isLess Less = true
 isLess Same = false
 isLess More = false
 
+-- the first of two ranges is less, or they are the same
+unfoldable pub isAtMost : Order → Bool
+isAtMost Less = true
+isAtMost Same = true
+isAtMost More = false
+
 -- two ranges are the same
 unfoldable pub isSame : Order → Bool
 isSame Less = false

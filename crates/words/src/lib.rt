@@ -10,7 +10,7 @@ ghost use mathlib.Core.List.{_++_};
 ghost use Prim.Native.Nat.{_+_, _≤_};
 ghost use lib.ListN.{drop, length};
 ghost use Rattle.words.specs.Numbers.{big, digits, long, word};
-ghost use Rattle.words.specs.Order.{isLess, isSame, order, range};
+ghost use Rattle.words.specs.Order.{isAtMost, isLess, isSame, order, range};
 
 // How two ranges of bytes compare.
 pub enum Order {
@@ -27,6 +27,17 @@ impl Order {
         match self {
             Order::Less => true,
             Order::Same => false,
+            Order::More => false,
+        }
+    }
+
+    // Whether the first of two ranges is less, or they are the same.
+    pub fn is_at_most(self) -> bool
+        ensures { λ r. ⌜ r ≡ isAtMost self ⌝ }
+    {
+        match self {
+            Order::Less => true,
+            Order::Same => true,
             Order::More => false,
         }
     }

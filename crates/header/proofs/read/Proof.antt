@@ -32,10 +32,10 @@ verdict2 d = rw (d .before .read-stored .ensures) at (d .is-table .ensures)
 kept2 : (e : tie.Else2) → isTable (storedOf (T (e .before .before))) ≡ true
 kept2 e = sym (verdict2 (e .before)) ∙ not-false _ (e .if2 .left)
 
-verdict3 : (d : tie.After-known-version) → d .known-version .result ≡ knownVersion (storedOf (T (d .before .before .before)))
+verdict3 : (d : tie.After-known-version) → d .known-version .result ≡ knownVersion (storedOf (T (d .before .before .before)) .version)
 verdict3 d = rw (d .before .before .before .read-stored .ensures) at (d .known-version .ensures)
 
-kept3 : (e : tie.Else3) → knownVersion (storedOf (T (e .before .before .before .before))) ≡ true
+kept3 : (e : tie.Else3) → knownVersion (storedOf (T (e .before .before .before .before)) .version) ≡ true
 kept3 e = sym (verdict3 (e .before)) ∙ not-false _ (e .if3 .left)
 
 place : (d : tie.After-encryption-at) → d .encryption-at .result ≡ encryptionAt (storedOf (T (d .before .before .before .before .before)) .version)
@@ -53,7 +53,7 @@ verdict5 d = rw (d .before .before .before .before .before .before .before .befo
 kept5 : (e : tie.Else5) → limitsKept (storedOf (T (e .before .before .before .before .before .before .before .before .before))) ≡ true
 kept5 e = sym (verdict5 (e .before)) ∙ not-false _ (e .if5 .left)
 
-verdict6 : (d : tie.After-is-length-right) → d .is-length-right .result ≡ lengthRight (length (T (d .before .before .before .before .before .before .before .before .before .before))) (storedOf (T (d .before .before .before .before .before .before .before .before .before .before)))
+verdict6 : (d : tie.After-is-length-right) → d .is-length-right .result ≡ (let s = storedOf (T (d .before .before .before .before .before .before .before .before .before .before)) in lengthRight (length (T (d .before .before .before .before .before .before .before .before .before .before))) (s .header) (s .blocks) (s .units))
 verdict6 d = rw (d .before .before .before .before .before .before .before .before .before .before .read-stored .ensures) at (d .is-length-right .ensures)
 
 -- ---- what is known after rule 5
@@ -89,7 +89,7 @@ module _ (e : tie.Else6) where
   abbrev T6 : List ℕ
   T6 = T (R E5)
 
-  kept6 : lengthRight (length T6) (storedOf T6) ≡ true
+  kept6 : lengthRight (length T6) (storedOf T6 .header) (storedOf T6 .blocks) (storedOf T6 .units) ≡ true
   kept6 = sym (verdict6 (e .before .before)) ∙ not-false _ (e .if6 .left)
 
   whole : length T6 ≡ storedOf T6 .header + storedOf T6 .blocks * blockSize (storedOf T6)

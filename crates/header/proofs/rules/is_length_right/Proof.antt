@@ -12,29 +12,22 @@ block-size-requires c κs = search needs
 cast-block : tie.Need-cast-block
 cast-block c = search needs
 
-cast-blocks : tie.Need-cast-blocks
-cast-blocks c = search needs
-
-cast-header : tie.Need-cast-header
-cast-header c = search needs
-
 mul-result : tie.Need-mul-result
 mul-result c =
-    let b = c .before .before .block-size .result in
-    let n = c .before .before .before .args .s .blocks in
+    let b = c .block-size .result in
+    let n = c .before .args .blocks in
     omega (arith, mul-le-mul {n₁ = n} {m₁ = b} {n₂ = 65535} {m₂ = 261120} (search needs) (search needs))
 
 add-result : tie.Need-add-result
 add-result c =
-    let b = c .before .before .block-size .result in
-    let n = c .before .before .before .args .s .blocks in
+    let b = c .block-size .result in
+    let n = c .before .args .blocks in
     omega (arith, mul-le-mul {n₁ = n} {m₁ = b} {n₂ = 65535} {m₂ = 261120} (search needs) (search needs))
 
 returns : tie.Need-returns
 unfolding lengthRight
-returns c = rw (c .before .before .block-size .ensures)
+returns c = rw (c .block-size .ensures)
 
 pub is-length-right-spec : {M : Type 1} → statement M
 is-length-right-spec =
-    tie.close
-    (tie.spec block-size-requires cast-block cast-blocks cast-header mul-result add-result returns)
+    tie.close (tie.spec block-size-requires cast-block mul-result add-result returns)

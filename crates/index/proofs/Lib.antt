@@ -1,0 +1,5 @@
+pub mod RuleLaws
+pub mod HeaderLaws
+pub mod AcceptedLaws
+pub mod EntryLaws
+pub mod WalkLaws

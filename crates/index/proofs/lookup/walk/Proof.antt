@@ -1,0 +1,143 @@
+-- `walk` meets its contract: 1 to 7, 13, 21 to 26, then the walk from the root. Assumes nothing.
+use mathlib.Core.Path.{_≡_, sym, ap, subst, _∙_}
+use mathlib.Core.Bool.{true}
+use mathlib.Core.List.{List}
+use Prim.Native.Nat.{ℕ}
+use native.Mathlib.Omega.{arith}
+use lib.ListN.{length}
+use borrow.Author.Tests.{not-true, not-false}
+use Rattle.header.specs.Header.{headerOf}
+use Rattle.header.specs.declared.Header.{Header}
+use Rattle.header.proofs.AcceptedLaws.{accepted}
+use Rattle.blocks.specs.Shape.{shapeOf}
+use Rattle.scan.specs.Scan.{keyFits}
+use Rattle.index.specs.Header.{indexOf}
+use Rattle.index.specs.Walk.{foundAfter, refusedWalk}
+use Rattle.index.specs.declared.IndexHeader.{IndexHeader}
+use Rattle.index.specs.declared.lookup.Walked.{Walked}
+use Rattle.index.proofs.WalkLaws.{walks, table-refused, key-unfit, index-refused, walk-rootless, walk-rooted, walkable, walk-same}
+use borrow.Author.Needs.{needs}
+use Rattle.index.proofs.lookup.walk.Statement.{statement}
+use Rattle.index.proofs.lookup.walk.Tie as tie
+
+read-requires : tie.Need-read-requires
+read-requires c κs = search needs
+
+refused-requires : tie.Need-refused-requires
+refused-requires c κs = search needs
+
+returns : tie.Need-returns
+returns c = 
+    let v = c .before .before .before .before .before .before .before .args in
+    let t = v .table .now in
+    let h = c .before .before .before .read .ensures in
+    let ne : headerOf t .refusal ≡ 0 → ⊥ = λ z. c .before .if1 .taken (ap (λ (k : Header). k .refusal) h ∙ z) in
+    walks t (v .index .now) (v .key .now) (c .refused .result)
+    (c .refused .ensures ∙ ap (λ (k : Header). refusedWalk (k .refusal)) h ∙ sym (table-refused t (v .index .now) (v .key .now) ne))
+
+-- where the table's header is accepted
+module _ (c : tie.Else1) where
+  abbrev T : List ℕ
+  T = c .before .before .before .before .before .before .args .table .now
+
+  abbrev X : List ℕ
+  X = c .before .before .before .before .before .before .args .index .now
+
+  abbrev K : List ℕ
+  K = c .before .before .before .before .before .before .args .key .now
+
+  header : c .before .before .read .result ≡ headerOf T
+  header = c .before .before .read .ensures
+
+  zero : headerOf T .refusal ≡ 0
+  zero = ap (λ (h : Header). h .refusal) (sym header) ∙ c .if1 .left
+
+key-fits-requires : tie.Need-key-fits-requires
+key-fits-requires c κs = search needs
+
+verdict13 : (c : tie.After-key-fits) → let d = c .before in keyFits (headerOf (T d)) (K d) ≡ c .key-fits .result
+verdict13 c = let d = c .before in ap (λ (h : Header). keyFits h (K d)) (sym (header d)) ∙ sym (c .key-fits .ensures)
+
+refused-requires-2 : tie.Need-refused-requires-2
+refused-requires-2 c κs = search needs
+
+returns-2 : tie.Need-returns-2
+returns-2 c = 
+    let d = c .before .before .before in
+    walks (T d) (X d) (K d) (c .refused2 .result)
+    (c .refused2 .ensures ∙ sym (key-unfit (T d) (X d) (K d) (zero d) (verdict13 (c .before .before) ∙ not-true _ (c .before .if2 .taken))))
+
+fits : (c : tie.Else2) → let d = c .before .before in keyFits (headerOf (T d)) (K d) ≡ true
+fits c = verdict13 (c .before) ∙ not-false _ (c .if2 .left)
+
+read-requires-2 : tie.Need-read-requires-2
+read-requires-2 c κs = search needs
+
+-- the index's header is read for the table's key length
+index : (c : tie.After-read2) → let d = c .before .before .before in c .read2 .result ≡ indexOf (X d) (headerOf (T d) .key)
+index c = let d = c .before .before .before in c .read2 .ensures ∙ ap (λ (h : Header). indexOf (X d) (h .key)) (header d)
+
+refused-requires-3 : tie.Need-refused-requires-3
+refused-requires-3 c κs = search needs
+
+returns-3 : tie.Need-returns-3
+returns-3 c = 
+    let e = c .before .before .before .before in
+    let d = e .before .before in
+    let i = index (c .before .before .before) in
+    walks (T d) (X d) (K d) (c .refused3 .result)
+    (c .refused3 .ensures ∙ ap (λ (k : IndexHeader). refusedWalk (k .refusal)) i ∙ sym (index-refused (T d) (X d) (K d) (zero d) (fits e) (λ z. c .before .if3 .taken (ap (λ (k : IndexHeader). k .refusal) i ∙ z))))
+
+kept : (c : tie.Else3) → let d = c .before .before .before .before .before in indexOf (X d) (headerOf (T d) .key) .refusal ≡ 0
+kept c = ap (λ (i : IndexHeader). i .refusal) (sym (index (c .before .before))) ∙ c .if3 .left
+
+returns-4 : tie.Need-returns-4
+unfolding foundAfter
+returns-4 c = 
+    let f = c .before .before in
+    let e = f .before .before .before in
+    let d = e .before .before in
+    walks (T d) (X d) (K d) _
+    (sym (walk-rootless (T d) (X d) (K d) (zero d) (fits e) (kept f) (ap (λ (k : IndexHeader). k .root) (sym (index (f .before .before))) ∙ c .if4 .taken)))
+
+shape-of-requires : tie.Need-shape-of-requires
+shape-of-requires c κs = search needs
+
+shape : (c : tie.After-shape-of) → c .shape-of .result ≡ shapeOf (headerOf (T (c .before .before .before .before .before .before .before .before)))
+shape c = c .shape-of .ensures ∙ ap shapeOf (header (c .before .before .before .before .before .before .before .before))
+
+walk-tree-requires : tie.Need-walk-tree-requires
+walk-tree-requires c κs = 
+    let f = c .before .before .before in
+    let e = f .before .before .before in
+    let d = e .before .before in
+    walkable (T d) (X d) (K d) (zero d) (fits e) (kept f) _ _ (shape c) (index (f .before .before))
+
+returns-5 : tie.Need-returns-5
+returns-5 c = 
+    let f = c .before .before .before .before in
+    let e = f .before .before .before in
+    let d = e .before .before in
+    let i = index (f .before .before) in
+    walks (T d) (X d) (K d) (c .walk-tree .result)
+    (c .walk-tree .ensures
+    ∙ walk-same (T d) (X d) (K d) _ _ (shape (c .before)) i
+    ∙ sym (walk-rooted (T d) (X d) (K d) (zero d) (fits e) (kept f) (λ z. c .before .before .if4 .left (ap (λ (k : IndexHeader). k .root) i ∙ z))))
+
+pub walk-spec : {M : Type 1} → statement M
+walk-spec =
+    tie.close
+    (tie.spec
+    read-requires
+    refused-requires
+    returns
+    key-fits-requires
+    refused-requires-2
+    returns-2
+    read-requires-2
+    refused-requires-3
+    returns-3
+    returns-4
+    shape-of-requires
+    walk-tree-requires
+    returns-5)

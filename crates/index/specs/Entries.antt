@@ -1,0 +1,34 @@
+-- Index entries fill blocks as records do: the key of n bytes, then three numbers of 16 bits, high byte first, the top bit
+-- complemented. The first of them is a block's number; the others are not judged. Definitions only.
+use Prim.Native.Nat.{ℕ, zero, suc, _+_}
+use mathlib.Core.Bool.{cond}
+use mathlib.Core.List.{List}
+use lib.ListN.{length}
+use Rattle.words.specs.Numbers.{big}
+use Rattle.words.specs.Order.{isAtMost, order}
+use Rattle.words.specs.Signed.{half, complemented}
+use Rattle.blocks.specs.Shape.{hasBlock, recordAt}
+use Rattle.blocks.specs.Counts.{countIn}
+use Rattle.blocks.specs.declared.Shape.{Shape}
+use Rattle.table.specs.Records.{held}
+use Rattle.table.specs.Keys.{keyAt}
+use Rattle.index.specs.declared.entries.Below.{Below}
+use Rattle.index.specs.declared.entries.Below.the-variants.{Block, Nothing}
+
+-- 27: how many entries index block b has. It is 0 for a block outside the file and for one with a bad count, too
+unfoldable pub entriesIn : List ℕ → Shape → ℕ → ℕ
+entriesIn x g b = cond (hasBlock g b) (held (countIn x g b)) 0
+
+-- the key of entry i of index block b
+abbrev pub entryKey : List ℕ → Shape → ℕ → ℕ → ℕ → List ℕ
+entryKey x g n b i = keyAt x g n (record { block = b; place = i })
+
+-- the block that entry i of index block b names
+unfoldable pub entryBlock : List ℕ → Shape → ℕ → ℕ → ℕ → ℕ
+entryBlock x g n b i = complemented (half 2) (big x (recordAt g b i + n) 2)
+
+-- the block that is named by the last, by place, of the first m entries of index block b whose key is at most the one sought
+unfoldable pub below : List ℕ → Shape → List ℕ → ℕ → ℕ → Below
+below x g key b zero = Nothing
+below x g key b (suc i) =
+    cond (isAtMost (order (entryKey x g (length key) b i) key)) (Block (entryBlock x g (length key) b i)) (below x g key b i)

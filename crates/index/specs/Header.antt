@@ -1,0 +1,99 @@
+-- Index rules 21, 22, 23, 25 and 26, tried in this order, and the header of an index file that keeps them; n is the table's key
+-- length. Definitions only.
+use Prim.Native.Nat.{ℕ, zero, suc, _+_, _*_}
+use mathlib.Core.Bool.{Bool, _&&_, _||_}
+use mathlib.Core.List.{List}
+use lib.Dec.{eqb, leb}
+use lib.ListN.{length}
+use Rattle.header.specs.Refusals.{indexTooShort, notAnIndex, indexVersion, indexLimit, indexLength, firstBroken}
+use Rattle.header.specs.Stored.{unit}
+use Rattle.header.specs.Header.{mostUnits, blockHead, mostBlocks, knownVersion, lengthRight}
+use Rattle.blocks.specs.Shape.{inFile}
+use Rattle.index.specs.Stored.{storedOf}
+use Rattle.index.specs.declared.IndexHeader.{IndexHeader}
+use Rattle.index.specs.declared.stored.Stored.{Stored}
+
+-- ---- the limits, by name
+
+-- 21 and 25: the least length of a file, and the least header size
+abbrev pub leastIndex : ℕ
+leastIndex = 88
+
+-- 22: byte 04 of an index
+abbrev pub indexKind : ℕ
+indexKind = 1
+
+-- 25: an entry's three numbers of 16 bits behind its key
+abbrev pub entryNumbers : ℕ
+entryNumbers = 6
+
+-- 25: the most levels
+abbrev pub mostLevels : ℕ
+mostLevels = 8
+
+-- ---- the rules
+
+-- 21: at least 88 bytes
+unfoldable pub longEnough : List ℕ → Bool
+longEnough x = leb leastIndex (length x)
+
+-- 22: byte 04 is 1
+unfoldable pub isIndex : Stored → Bool
+isIndex s = eqb (s .kind) indexKind
+
+-- 25: root and levels are both 0, or the root is a block of the file and there are 1 to 8 levels
+unfoldable pub rootRight : Stored → Bool
+rootRight s =
+    (eqb (s .root) 0 && eqb (s .levels) 0)
+    || (inFile (s .blocks) (s .root) && leb 1 (s .levels) && leb (s .levels) mostLevels)
+
+-- 25: every number of the header within its limit
+unfoldable pub limitsKept : ℕ → Stored → Bool
+limitsKept n s =
+    eqb (s .size) (n + entryNumbers)
+    && leb leastIndex (s .header)
+    && leb 1 (s .units)
+    && leb (s .units) mostUnits
+    && leb (s .blocks) mostBlocks
+    && leb (s .size + blockHead) (s .units * unit)
+    && rootRight s
+
+-- the first broken rule's number, or 0. 23 is 3's rule and 26 is 6's
+unfoldable pub indexAnswer : List ℕ → ℕ → ℕ
+indexAnswer x n =
+    firstBroken (longEnough x) indexTooShort
+    (firstBroken (isIndex (storedOf x)) notAnIndex
+    (firstBroken (knownVersion (storedOf x .version)) indexVersion
+    (firstBroken (limitsKept n (storedOf x)) indexLimit
+    (firstBroken (lengthRight (length x) (storedOf x .header) (storedOf x .blocks) (storedOf x .units)) indexLength 0))))
+
+-- ---- the answer
+
+-- a refusal has its number and no other: the rest is 0
+unfoldable pub refusedWith : ℕ → IndexHeader
+refusedWith number =
+    record {
+      refusal = number;
+      shape = record { header = 0; block = 0; blocks = 0; size = 0 };
+      root = 0;
+      levels = 0;
+    }
+
+-- the numbers of a header that keeps the rules: the file's shape, whose records are the entries, the root and the levels
+unfoldable pub acceptedOf : Stored → IndexHeader
+acceptedOf s =
+    record {
+      refusal = 0;
+      shape = record { header = s .header; block = s .units * unit; blocks = s .blocks; size = s .size };
+      root = s .root;
+      levels = s .levels;
+    }
+
+-- the answer by its number: 0 has the numbers, any other has none
+unfoldable pub answerWith : ℕ → List ℕ → IndexHeader
+answerWith zero x = acceptedOf (storedOf x)
+answerWith (suc number) x = refusedWith (suc number)
+
+-- what reading an index's header answers, for any bytes and any key length
+unfoldable pub indexOf : List ℕ → ℕ → IndexHeader
+indexOf x n = answerWith (indexAnswer x n) x

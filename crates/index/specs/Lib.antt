@@ -1,0 +1,6 @@
+pub mod Stored
+pub mod Header
+pub mod Rules
+pub mod Entries
+pub mod Walk
+pub mod Steps

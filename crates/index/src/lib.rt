@@ -1,0 +1,87 @@
+// The index file of a table: index rules 21 to 26 in one call, and the walk from its root to a record.
+mod entries;
+mod lookup;
+mod rules;
+mod stored;
+
+pub use entries::block_named;
+pub use entries::entries_in;
+pub use lookup::Walked;
+pub use lookup::walk;
+ghost use mathlib.Core.Path.{_≡_};
+ghost use Prim.Native.Nat.{_≤_};
+ghost use Rattle.header.specs.Header.{mostUnits};
+ghost use Rattle.index.specs.Header.{acceptedOf, indexOf, refusedWith};
+use crate::stored::Stored;
+use blocks::Shape;
+use header::refusal;
+
+// What reading an index's header answers: refusal 0 and the header's numbers, or a refusal's number with every other
+// number 0.
+pub struct IndexHeader {
+    pub refusal: u8,
+    // The file's shape; its records are the entries.
+    pub shape: Shape,
+    // The block at which a walk begins, 0 where the index has none, and the levels of index blocks.
+    pub root: u16,
+    pub levels: u8,
+}
+
+// The header of an index to a table with keys of this length: the first of 21, 22, 23, 25 and 26 that any bytes
+// break, or the header's numbers.
+pub fn read(x: &[u8], key: u16) -> IndexHeader
+    ensures { λ r. ⌜ r ≡ indexOf (now (x .entry)) key ⌝ }
+{
+    if x.len() < rules::LEAST_LENGTH {
+        return refused(refusal::INDEX_TOO_SHORT);
+    }
+    let s = stored::read_stored(x);
+    if !rules::is_index(s) {
+        return refused(refusal::NOT_AN_INDEX);
+    }
+    if !header::known_version(s.version) {
+        return refused(refusal::INDEX_VERSION);
+    }
+    if !rules::limits_kept(s, key) {
+        return refused(refusal::INDEX_LIMIT);
+    }
+    if !header::is_length_right(x.len(), s.header, s.blocks, s.units) {
+        return refused(refusal::INDEX_LENGTH);
+    }
+    accepted(s)
+}
+
+// A refusal carries its number only.
+fn refused(number: u8) -> IndexHeader
+    ensures { λ r. ⌜ r ≡ refusedWith number ⌝ }
+{
+    IndexHeader {
+        refusal: number,
+        shape: Shape {
+            header: 0,
+            block: 0,
+            blocks: 0,
+            size: 0,
+        },
+        root: 0,
+        levels: 0,
+    }
+}
+
+// The answer for a header that keeps every rule.
+fn accepted(s: Stored) -> IndexHeader
+    requires { ⌜ s .units ≤ mostUnits ⌝ }
+    ensures { λ r. ⌜ r ≡ acceptedOf s ⌝ }
+{
+    IndexHeader {
+        refusal: refusal::ACCEPTED,
+        shape: Shape {
+            header: s.header,
+            block: header::block_bytes(s.units),
+            blocks: s.blocks,
+            size: s.size,
+        },
+        root: s.root,
+        levels: s.levels,
+    }
+}
