@@ -44,6 +44,10 @@ pub has-block : (g : Shape) (b : ℕ) → hasBlock g b ≡ true → (1 ≤ b) ×
 unfolding hasBlock
 has-block g b e = in-file (g .blocks) b e
 
+pub block-there : (g : Shape) (b : ℕ) → 1 ≤ b → b ≤ g .blocks → hasBlock g b ≡ true
+unfolding hasBlock
+block-there g b low high = file-has (g .blocks) b low high
+
 -- the blocks before block b, and block b, are at most all of them
 blocks-fit : (block b n : ℕ) → 1 ≤ b → b ≤ n → (b - 1) * block + block ≤ n * block
 blocks-fit block zero n low high = absurd (not-suc-le-zero low)

@@ -9,11 +9,12 @@ use native.Mathlib.Omega.{arith}
 use lib.ListN.{length}
 use borrow.Author.Tests.{eq-eqb, ne-eqb}
 use Rattle.words.specs.Order.{isAtMost, order}
-use Rattle.blocks.specs.Shape.{hasBlock}
+use Rattle.blocks.specs.Shape.{hasBlock, recordAt}
 use Rattle.blocks.specs.Counts.{countIn}
 use Rattle.blocks.specs.declared.Shape.{Shape}
 use Rattle.blocks.specs.declared.count.Count.{Count}
 use Rattle.blocks.specs.declared.count.Count.the-variants.{Records, Bad}
+use Rattle.blocks.proofs.CountLaws.{record-in-file}
 use Rattle.blocks.proofs.ShapeLaws.{has-block}
 use Rattle.table.specs.Records.{held}
 use Rattle.table.specs.Steps.{RunInside}
@@ -63,6 +64,11 @@ module _ (x : List ℕ) (g : Shape) (b : ℕ) where
   entries-inside n a l few =
       let w = with-entries l in
       run-inside x g (a .sound) b (w .low) (w .high) (entriesIn x g b) (w .counted) (n + entryNumbers) (omega (arith, a .size)) few
+
+  pub entry-inside : (n i : ℕ) → Entries x g n → i < entriesIn x g b → recordAt g b i + n + entryNumbers ≤ length x
+  entry-inside n i a l =
+      let w = with-entries (omega arith) in
+      omega (arith, a .size, record-in-file x g (a .sound) b (entriesIn x g b) (w .counted) (w .low) (w .high) i l)
 
   -- ---- the way down
 

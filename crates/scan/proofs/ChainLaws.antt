@@ -11,7 +11,7 @@ use Rattle.chain.specs.Chain.{chainFrom}
 use Rattle.chain.specs.Links.{nextOf}
 use Rattle.table.specs.Records.{held, placesFrom, recordsIn}
 use Rattle.table.specs.Steps.{GoodChain}
-use Rattle.table.proofs.GoodChainLaws.{good-ends, good-here, good-follows}
+use Rattle.table.proofs.GoodChainLaws.{good-ends, good-on}
 use Rattle.scan.specs.Steps.{recordsFrom}
 
 module _ (t : List ℕ) (g : Shape) where
@@ -37,17 +37,15 @@ module _ (t : List ℕ) (g : Shape) where
   pub from-block : (b : ℕ) → (b ≡ 0 → ⊥) → GoodChain t g b (blocksFrom b) → FirstBlock b
   unfolding recordsIn held
   from-block b ne c =
-      let p = good-here t g b (blocksFrom b) ne c in
-      let q = p .2 in
-      let f : blocksFrom (nextOf t g b) ≡ p .0 = good-follows t g (nextOf t g b) (p .0) (q .onward) in
-      let m : length (blocksFrom b) ≡ suc (length (p .0)) = ap length (p .1) in
-      let n : length (blocksFrom (nextOf t g b)) ≡ length (p .0) = ap length f in
+      let p = good-on t g b ne c in
+      let q = p .1 in
+      let m : length (blocksFrom b) ≡ suc (length (blocksFrom (nextOf t g b))) = ap length (p .0) in
       record {
         low = q .low;
         high = q .high;
         count = q .count;
         counted = q .counted;
-        records = ap (recordsIn t g) (p .1) ∙ rw (q .counted, f);
-        onward = rw f (q .onward);
+        records = ap (recordsIn t g) (p .0) ∙ rw (q .counted);
+        onward = q .onward;
         fewer = omega arith;
       }

@@ -9,8 +9,7 @@ use native.Mathlib.Omega.{arith}
 use lib.Dec.{eqb}
 use lib.ListN.{length, getD}
 use borrow.Author.Tests.{eqb-true, eqb-false}
-use Rattle.words.specs.Order.{isSame, order}
-use Rattle.words.proofs.OrderLaws.{is-same, order-refl, order-same}
+use Rattle.words.proofs.OrderLaws.{same-gives, same-takes}
 use Rattle.header.specs.Header.{headerOf}
 use Rattle.header.specs.declared.Header.{Header}
 use Rattle.blocks.specs.Shape.{shapeOf}
@@ -31,11 +30,10 @@ use Rattle.scan.proofs.ScanLaws.{fits-gives, scan-refused, scan-unfit, 
 
 module _ (t : List ℕ) (g : Shape) (key : List ℕ) where
   key-gives : (p : Position) → isSought t g key p ≡ true → keyAt t g (length key) p ≡ key
-  key-gives p e = order-same (keyAt t g (length key) p) key (is-same (order (keyAt t g (length key) p) key) e)
+  key-gives p e = same-gives (keyAt t g (length key) p) key e
 
   key-takes : (p : Position) → keyAt t g (length key) p ≡ key → isSought t g key p ≡ true
-  unfolding isSame
-  key-takes p e = rw (e, order-refl)
+  key-takes p e = same-takes (keyAt t g (length key) p) key e
 
   -- ---- what the first of some records with the key is
 

@@ -6,8 +6,8 @@ use mathlib.Core.List.{List}
 use native.Mathlib.Omega.{arith}
 use lib.Dec.{eqb, leb}
 use lib.ListN.{length}
-use borrow.Author.Tests.{eq-eqb, ne-eqb, eqb-true, leb-true}
-use Rattle.words.proofs.Conjunctions.{both}
+use borrow.Author.Tests.{eq-eqb, ne-eqb, eqb-true, le-leb, leb-true}
+use Rattle.words.proofs.Conjunctions.{both, join}
 use Rattle.header.specs.Header.{headerOf}
 use Rattle.header.specs.declared.Header.{Header}
 use Rattle.blocks.specs.Shape.{shapeOf}
@@ -28,6 +28,10 @@ unfolding keyFits
 fits-gives h key e =
     let p = both {a = leb 1 (h .keys)} {b = eqb (length key) (h .key)} e in
     (leb-true 1 (h .keys) (p .0), eqb-true (length key) (h .key) (p .1))
+
+pub fits-takes : (h : Header) (key : List ℕ) → 1 ≤ h .keys → length key ≡ h .key → keyFits h key ≡ true
+unfolding keyFits
+fits-takes h key keyed long = join (le-leb 1 (h .keys) keyed) (eq-eqb (length key) (h .key) long)
 
 module _ (t key : List ℕ) (room : ℕ) where
   pub scan-refused : (tableAnswer t room ≡ 0 → ⊥) → scanOf t key room ≡ Refused (tableAnswer t room)

@@ -5,10 +5,14 @@ use mathlib.Core.Bool.{Bool, true, false, cond}
 use mathlib.Core.List.{List, _++_}
 use native.Mathlib.Omega.{arith}
 use lib.Dec.{eqb, leb, eqb·suc-zero}
-use lib.ListN.{length, replicate, drop}
+use lib.ListN.{length, replicate, drop, length-append, length-replicate}
+use lib.Seq.{drop-at}
+use borrow.Author.Tests.{le-leb}
 use Rattle.header.specs.Header.{headerOf}
+use Rattle.header.specs.declared.Header.{Header}
 use Rattle.chain.specs.Links.{usedOf}
 use Rattle.chain.specs.Marks.{marksOf}
+use Rattle.chain.proofs.ListLaws.{marks-length}
 use Rattle.table.specs.Counts.{countsRight, sumFits}
 use Rattle.table.specs.Keys.{keysAscend}
 use Rattle.table.specs.Table.{tableChained, rulesAnswer, blocksAnswer, tableAnswer, blockMarks, bufferAfter, tableMarks}
@@ -56,3 +60,36 @@ module _ (t m : List ℕ) where
       go a marks z by-sum = absurd (omega arith)
       go a marks z by-keys = absurd (omega arith)
       go a marks z accepting = refl
+
+-- ---- a second check leaves what the first one left
+
+module _ (t : List ℕ) (h : Header) where
+  block-marks : length (blockMarks t h) ≡ h .blocks
+  unfolding blockMarks
+  block-marks = go (tableChained t h)
+    where
+      go : (b : Bool) → length (cond b (marksOf (h .blocks) (usedOf t h)) (replicate (h .blocks) 0)) ≡ h .blocks
+      go true = marks-length (h .blocks) (usedOf t h)
+      go false = length-replicate (h .blocks) 0
+
+  buffer-again : (m : List ℕ) → bufferAfter t h (bufferAfter t h m) ≡ bufferAfter t h m
+  unfolding bufferAfter
+  buffer-again m = go (leb (h .blocks) (length m)) refl
+    where
+      left : List ℕ
+      left = blockMarks t h ++ drop (h .blocks) m
+
+      long : leb (h .blocks) (length left) ≡ true
+      long = le-leb (h .blocks) (length left) (omega (arith, length-append (blockMarks t h) (drop (h .blocks) m), block-marks))
+
+      go : (b : Bool) → leb (h .blocks) (length m) ≡ b → bufferAfter t h (cond b left m) ≡ cond b left m
+      go true e = rw (long, drop-at (blockMarks t h) (drop (h .blocks) m) (h .blocks) block-marks)
+      go false e = rw e
+
+pub marks-again : (t m : List ℕ) → tableMarks t (tableMarks t m) ≡ tableMarks t m
+unfolding tableMarks
+marks-again t m = go (eqb (headerOf t .refusal) 0) refl
+  where
+    go : (b : Bool) → eqb (headerOf t .refusal) 0 ≡ b → cond b (bufferAfter t (headerOf t) (cond b (bufferAfter t (headerOf t) m) m)) (cond b (bufferAfter t (headerOf t) m) m) ≡ cond b (bufferAfter t (headerOf t) m) m
+    go true e = buffer-again t (headerOf t) m
+    go false e = refl

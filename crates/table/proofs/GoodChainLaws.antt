@@ -1,6 +1,6 @@
 -- The used blocks of an accepted table, taken one after another. Assumes nothing.
 use Prim.Native.Nat.{ℕ, suc, _≤_, suc-le-suc}
-use mathlib.Core.Path.{_≡_, refl}
+use mathlib.Core.Path.{_≡_, refl, _∙_}
 use mathlib.Core.List.{List, [], _∷_}
 use native.Mathlib.Omega.{arith}
 use Rattle.header.specs.declared.Header.{Header}
@@ -73,3 +73,11 @@ module _ (t : List ℕ) (g : Shape) where
   -- such a chain is what following next gives
   pub good-follows : (b : ℕ) (bs : List ℕ) → GoodChain t g b bs → chainFrom (nextOf t g) (g .blocks) b ≡ bs
   good-follows b bs c = follow-is (nextOf t g) (suc (g .blocks)) b bs (c .chain) (suc-le-suc (c .few))
+
+  -- so from a number that is not 0 on there are its block and what following gives from the next number on
+  pub good-on : (b : ℕ) → (b ≡ 0 → ⊥) → GoodChain t g b (chainFrom (nextOf t g) (g .blocks) b) →
+      (chainFrom (nextOf t g) (g .blocks) b ≡ b ∷ chainFrom (nextOf t g) (g .blocks) (nextOf t g b)) × Block b (chainFrom (nextOf t g) (g .blocks) (nextOf t g b))
+  good-on b ne c =
+      let p = good-here b (chainFrom (nextOf t g) (g .blocks) b) ne c in
+      let f = good-follows (nextOf t g b) (p .0) (p .2 .onward) in
+      (p .1 ∙ rw f, rw f (p .2))

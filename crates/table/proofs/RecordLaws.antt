@@ -1,8 +1,8 @@
 -- The records of some blocks: how many, where each is; and the rules of counts and keys, test and proposition. Assumes nothing.
 use Prim.Native.Nat.{ℕ, zero, suc, _+_, _-_, _≤_, _<_}
-use mathlib.Core.Path.{_≡_, refl, ap, _∙_}
+use mathlib.Core.Path.{_≡_, refl, sym, ap, _∙_}
 use mathlib.Core.Bool.{Bool, true, false≢true}
-use mathlib.Core.List.{List, [], _∷_, _++_}
+use mathlib.Core.List.{List, [], _∷_, _++_, append-assoc}
 use mathlib.Core.Logic.{⊎-elim}
 use native.Mathlib.Nat.{not-suc-le-zero, eq-or-lt-of-le, add-zero, zero-add}
 use native.Mathlib.Omega.{arith}
@@ -36,6 +36,12 @@ unfolding recordsIn total
 records-total t g [] = refl
 records-total t g (b ∷ bs) =
     length-append (placesFrom b 0 (held (countIn t g b))) (recordsIn t g bs) ∙ rw (places-length b 0 (held (countIn t g b)), records-total t g bs)
+
+-- the records of some blocks and of others after them
+pub records-append : (t : List ℕ) (g : Shape) (bs cs : List ℕ) → recordsIn t g (bs ++ cs) ≡ recordsIn t g bs ++ recordsIn t g cs
+unfolding recordsIn
+records-append t g [] cs = refl
+records-append t g (b ∷ bs) cs = rw (records-append t g bs cs) (sym (append-assoc (placesFrom b 0 (held (countIn t g b))) (recordsIn t g bs) (recordsIn t g cs)))
 
 -- ---- counts
 

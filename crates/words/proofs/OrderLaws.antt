@@ -84,6 +84,14 @@ order-same (x ∷ xs) (y ∷ ys) h = go (first x y) h (order-same xs ys)
     go (above l) w ih = absurd (more≢same w)
     go (level e) w ih = let r : xs ≡ ys = ih w in cc
 
+-- the test says so of two ranges exactly when they are equal
+pub same-gives : (a b : List ℕ) → isSame (order a b) ≡ true → a ≡ b
+same-gives a b e = order-same a b (is-same (order a b) e)
+
+pub same-takes : (a b : List ℕ) → a ≡ b → isSame (order a b) ≡ true
+unfolding isSame
+same-takes a b e = rw (e, order-refl)
+
 -- turning the two ranges round turns the order round
 unfoldable pub turned : Order → Order
 turned Less = More

@@ -55,7 +55,7 @@ refused-requires c κs = search needs
 
 returns : tie.Need-returns
 unfolding longEnough
-returns c = 
+returns c =
     let v = c .before .before .before .args in
     c .refused .ensures ∙ sym (broken-21 (v .x .now) (v .key) (lt-leb 88 (length (v .x .now)) (c .before .if1 .taken)))
 
@@ -69,7 +69,7 @@ refused-requires-2 : tie.Need-refused-requires-2
 refused-requires-2 c κs = search needs
 
 returns-2 : tie.Need-returns-2
-returns-2 c = 
+returns-2 c =
     let r = c .before .before .before in
     c .refused2 .ensures ∙ sym (broken-22 (X r) (N r) (kept21 r) (sym (verdict22 (c .before .before)) ∙ not-true _ (c .before .if2 .taken)))
 
@@ -80,7 +80,7 @@ refused-requires-3 : tie.Need-refused-requires-3
 refused-requires-3 c κs = search needs
 
 returns-3 : tie.Need-returns-3
-returns-3 c = 
+returns-3 c =
     let e = c .before .before .before in
     let r = e .before .before in
     c .refused3 .ensures ∙ sym (broken-23 (X r) (N r) (kept21 r) (kept22 e) (sym (verdict23 (c .before .before)) ∙ not-true _ (c .before .if3 .taken)))
@@ -92,7 +92,7 @@ refused-requires-4 : tie.Need-refused-requires-4
 refused-requires-4 c κs = search needs
 
 returns-4 : tie.Need-returns-4
-returns-4 c = 
+returns-4 c =
     let e3 = c .before .before .before in
     let e2 = e3 .before .before in
     let r = e2 .before .before in
@@ -105,7 +105,7 @@ refused-requires-5 : tie.Need-refused-requires-5
 refused-requires-5 c κs = search needs
 
 returns-5 : tie.Need-returns-5
-returns-5 c = 
+returns-5 c =
     let e4 = c .before .before .before in
     let e3 = e4 .before .before in
     let e2 = e3 .before .before in
@@ -113,13 +113,13 @@ returns-5 c =
     c .refused5 .ensures ∙ sym (broken-26 (X r) (N r) (kept21 r) (kept22 e2) (kept23 e3) (kept25 e4) (sym (verdict26 (c .before .before)) ∙ not-true _ (c .before .if5 .taken)))
 
 accepted-requires : tie.Need-accepted-requires
-accepted-requires c κs = 
+accepted-requires c κs =
     let e4 = c .before .before in
     let r = e4 .before .before .before .before .before .before in
     rw (r .read-stored .ensures) (limits-give (N r) (storedOf (X r)) (kept25 e4) .units-most)
 
 returns-6 : tie.Need-returns-6
-returns-6 c = 
+returns-6 c =
     let e4 = c .before .before .before in
     let e3 = e4 .before .before in
     let e2 = e3 .before .before in

@@ -11,7 +11,7 @@ number-requires : tie.Need-number-requires
 number-requires c κs = search needs
 
 cast-result : tie.Need-cast-result
-cast-result c = 
+cast-result c =
     let v = c .before .before .before .args in
     omega (arith, c .before .number .ensures, big-lt (v .x .now) (v .at) 2 (λ i. omega (arith, c .before .before .shared-slice-known .given i)))
 

@@ -16,7 +16,7 @@ entries-in-requires : tie.Need-entries-in-requires
 entries-in-requires c κs = c .before .before .pre .sound
 
 returns : tie.Need-returns
-returns c = 
+returns c =
     let v = c .before .before .before .before .args in
     sym (descent-refused (v .x .now) (v .shape) (v .block) (v .key .now) (sym (c .before .entries-in .ensures) ∙ c .if1 .taken))
 
@@ -27,14 +27,14 @@ few : (c : tie.Else1) → c .before .entries-in .result < 65536
 few c = search needs
 
 find-below-requires : tie.Need-find-below-requires
-find-below-requires c κs = 
+find-below-requires c κs =
     let v = c .before .before .before .before .args in
     let e = c .before .entries-in .ensures in
     subst (λ (n : ℕ). RunInside (v .x .now) (v .shape) (length (v .key .now) + 6) (v .block) n) (sym e)
     (entries-inside (v .x .now) (v .shape) (v .block) (length (v .key .now)) (c .before .before .before .before .pre) (omega (arith, e, some c)) (omega (arith, e, few c)))
 
 returns-2 : tie.Need-returns-2
-returns-2 c = 
+returns-2 c =
     let v = c .before .before .before .before .before .args in
     let e = c .before .before .entries-in .ensures in
     ap {B = Descent} Read (c .find-below .ensures ∙ ap (below (v .x .now) (v .shape) (v .key .now) (v .block)) e)

@@ -17,12 +17,12 @@ has-block-requires : tie.Need-has-block-requires
 has-block-requires c κs = search needs
 
 returns : tie.Need-returns
-returns c = 
+returns c =
     let v = c .before .before .before .args in
     sym (entries-outside (v .x .now) (v .shape) (v .block) (sym (c .before .has-block .ensures) ∙ not-true _ (c .if1 .taken)))
 
 count-in-requires : tie.Need-count-in-requires
-count-in-requires c κs = 
+count-in-requires c κs =
     let v = c .before .before .before .args in
     let p = has-block (v .shape) (v .block) (inside c) in
     (p .0, p .1, c .before .before .before .pre)
@@ -34,12 +34,12 @@ enum-told : tie.Need-enum-told
 enum-told c = search needs
 
 returns-2 : tie.Need-returns-2
-returns-2 c = 
+returns-2 c =
     let v = c .before .before .before .before .before .before .args in
     sym (entries-bad (v .x .now) (v .shape) (v .block) (inside (c .before .before .before)) (sym (c .before .before .count-in .ensures) ∙ c .enum-told .given .1))
 
 returns-3 : tie.Need-returns-3
-returns-3 c = 
+returns-3 c =
     let v = c .before .before .before .before .before .before .before .args in
     sym (entries-counted (v .x .now) (v .shape) (v .block) (c .before .count .given .0 .0) (inside (c .before .before .before .before)) (sym (c .before .before .before .count-in .ensures) ∙ c .before .count .given .1))
 

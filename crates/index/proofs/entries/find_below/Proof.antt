@@ -12,7 +12,7 @@ use Rattle.index.proofs.entries.find_below.Statement.{statement}
 use Rattle.index.proofs.entries.find_below.Tie as tie
 
 abbrev Inv-loop : tie.InvT-loop
-Inv-loop x shape block count key i₀ i = 
+Inv-loop x shape block count key i₀ i =
     (i ≤ count) × (below x shape key block count ≡ below x shape key block i)
 
 abbrev μ-loop : tie.MeasureT-loop
@@ -31,7 +31,7 @@ record-at-requires : tie.Need-record-at-requires Inv-loop μ-loop
 record-at-requires c κs = search needs
 
 compare-requires : tie.Need-compare-requires Inv-loop μ-loop
-compare-requires c κs = 
+compare-requires c κs =
     let r = c .before .before .before .before .before .pre in
     let l = c .before .before .loop in
     (omega (arith, c .record-at .ensures, r .short, r .inside (l .i - 1) (omega (arith, l .inv .0, c .before .loop-test .taken))), omega arith)
@@ -40,13 +40,13 @@ is-at-most-requires : tie.Need-is-at-most-requires Inv-loop μ-loop
 is-at-most-requires c κs = search needs
 
 add-block-named : tie.Need-add-block-named Inv-loop μ-loop
-add-block-named c = 
+add-block-named c =
     let r = c .before .before .before .before .before .before .before .before .pre in
     let l = c .before .before .before .before .before .loop in
     omega (arith, c .before .before .before .record-at .ensures, r .short, r .inside (l .i - 1) (omega (arith, l .inv .0, c .before .before .before .before .loop-test .taken)))
 
 block-named-requires : tie.Need-block-named-requires Inv-loop μ-loop
-block-named-requires c κs = 
+block-named-requires c κs =
     let r = c .before .before .before .before .before .before .before .before .pre in
     let l = c .before .before .before .before .before .loop in
     omega (arith, c .before .before .before .record-at .ensures, r .short, r .inside (l .i - 1) (omega (arith, l .inv .0, c .before .before .before .before .loop-test .taken)))
@@ -60,7 +60,7 @@ tested c = sym (c .is-at-most .ensures ∙ ap isAtMost (c .before .compare .ensu
 
 returns : tie.Need-returns Inv-loop μ-loop
 unfolding entryBlock
-returns c = 
+returns c =
     let v = c .before .before .before .before .before .before .before .before .before .args in
     let l = c .before .before .before .before .before .before .loop in
     sym (l .inv .1
@@ -71,13 +71,13 @@ loop-less : tie.Need-loop-less Inv-loop μ-loop
 loop-less c = search needs
 
 loop-again : tie.Need-loop-again Inv-loop μ-loop
-loop-again c = 
+loop-again c =
     let v = c .before .before .before .before .before .before .before .before .args in
     let l = c .before .before .before .before .before .loop in
     (search needs, l .inv .1 ∙ below-miss (v .x .now) (v .shape) (v .block) (v .key .now) (l .i) (c .before .before .before .before .loop-test .taken) (tested (c .before) ∙ c .if1 .left))
 
 returns-2 : tie.Need-returns-2 Inv-loop μ-loop
-returns-2 c = 
+returns-2 c =
     let v = c .before .before .before .before .args in
     let l = c .before .loop in
     sym (l .inv .1 ∙ below-none (v .x .now) (v .shape) (v .block) (v .key .now) (l .i) (c .loop-test .left))

@@ -34,12 +34,12 @@ refused-requires : tie.Need-refused-requires
 refused-requires c κs = search needs
 
 returns : tie.Need-returns
-returns c = 
+returns c =
     let v = c .before .before .before .before .before .args in
     c .refused .ensures ∙ sym (data-outside (v .table .now) (v .shape) (v .key .now) (v .block) (v .reads) (sym (c .before .before .has-block .ensures) ∙ not-true _ (c .before .if1 .taken)))
 
 count-in-requires : tie.Need-count-in-requires
-count-in-requires c κs = 
+count-in-requires c κs =
     let v = c .before .before .before .before .args in
     let p = has-block (v .shape) (v .block) (inside c) in
     (p .0, p .1, c .before .before .before .before .pre .0)
@@ -54,12 +54,12 @@ refused-requires-2 : tie.Need-refused-requires-2
 refused-requires-2 c κs = search needs
 
 returns-2 : tie.Need-returns-2
-returns-2 c = 
+returns-2 c =
     let v = c .before .before .before .before .before .before .before .before .args in
     c .refused2 .ensures ∙ sym (data-bad (v .table .now) (v .shape) (v .key .now) (v .block) (v .reads) (inside (c .before .before .before .before)) (sym (c .before .before .before .count-in .ensures) ∙ c .before .enum-told .given .1))
 
 find-in-block-requires : tie.Need-find-in-block-requires
-find-in-block-requires c κs = 
+find-in-block-requires c κs =
     let v = c .before .before .before .before .before .before .before .before .args in
     let s = c .before .before .before .before .before .before .before .before .pre in
     let p = has-block (v .shape) (v .block) (inside (c .before .before .before .before)) in
@@ -67,7 +67,7 @@ find-in-block-requires c κs =
 
 returns-3 : tie.Need-returns-3
 unfolding foundAfter
-returns-3 c = 
+returns-3 c =
     let v = c .before .before .before .before .before .before .before .before .before .args in
     rw (c .find-in-block .ensures) (sym (data-found (v .table .now) (v .shape) (v .key .now) (v .block) (v .reads) (inside (c .before .before .before .before .before)) (N (c .before)) (counted (c .before))))
 

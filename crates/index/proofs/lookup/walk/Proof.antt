@@ -27,7 +27,7 @@ refused-requires : tie.Need-refused-requires
 refused-requires c κs = search needs
 
 returns : tie.Need-returns
-returns c = 
+returns c =
     let v = c .before .before .before .before .before .before .before .args in
     let t = v .table .now in
     let h = c .before .before .before .read .ensures in
@@ -62,7 +62,7 @@ refused-requires-2 : tie.Need-refused-requires-2
 refused-requires-2 c κs = search needs
 
 returns-2 : tie.Need-returns-2
-returns-2 c = 
+returns-2 c =
     let d = c .before .before .before in
     walks (T d) (X d) (K d) (c .refused2 .result)
     (c .refused2 .ensures ∙ sym (key-unfit (T d) (X d) (K d) (zero d) (verdict13 (c .before .before) ∙ not-true _ (c .before .if2 .taken))))
@@ -81,7 +81,7 @@ refused-requires-3 : tie.Need-refused-requires-3
 refused-requires-3 c κs = search needs
 
 returns-3 : tie.Need-returns-3
-returns-3 c = 
+returns-3 c =
     let e = c .before .before .before .before in
     let d = e .before .before in
     let i = index (c .before .before .before) in
@@ -93,7 +93,7 @@ kept c = ap (λ (i : IndexHeader). i .refusal) (sym (index (c .before .before)))
 
 returns-4 : tie.Need-returns-4
 unfolding foundAfter
-returns-4 c = 
+returns-4 c =
     let f = c .before .before in
     let e = f .before .before .before in
     let d = e .before .before in
@@ -107,14 +107,14 @@ shape : (c : tie.After-shape-of) → c .shape-of .result ≡ shapeOf (headerOf (
 shape c = c .shape-of .ensures ∙ ap shapeOf (header (c .before .before .before .before .before .before .before .before))
 
 walk-tree-requires : tie.Need-walk-tree-requires
-walk-tree-requires c κs = 
+walk-tree-requires c κs =
     let f = c .before .before .before in
     let e = f .before .before .before in
     let d = e .before .before in
     walkable (T d) (X d) (K d) (zero d) (fits e) (kept f) _ _ (shape c) (index (f .before .before))
 
 returns-5 : tie.Need-returns-5
-returns-5 c = 
+returns-5 c =
     let f = c .before .before .before .before in
     let e = f .before .before .before in
     let d = e .before .before in

@@ -15,7 +15,7 @@ use Rattle.index.proofs.lookup.walk_tree.Statement.{statement}
 use Rattle.index.proofs.lookup.walk_tree.Tie as tie
 
 abbrev Inv-loop : tie.InvT-loop
-Inv-loop table shape index i key level₀ block₀ reads₀ level block reads = 
+Inv-loop table shape index i key level₀ block₀ reads₀ level block reads =
     (reads + level ≤ 8) × (walkFrom table shape index (i .shape) key (i .levels) (i .root) 0 ≡ walkFrom table shape index (i .shape) key level block reads)
 
 abbrev μ-loop : tie.MeasureT-loop
@@ -66,7 +66,7 @@ refused-requires : tie.Need-refused-requires Inv-loop μ-loop
 refused-requires c κs = search needs
 
 returns : tie.Need-returns Inv-loop μ-loop
-returns c = 
+returns c =
     let d = c .before .before .before .before in
     c .refused .ensures
     ∙ sym (d .before .loop .inv .1
@@ -83,7 +83,7 @@ enum-told-2 c = search needs
 
 returns-2 : tie.Need-returns-2 Inv-loop μ-loop
 unfolding foundAfter
-returns-2 c = 
+returns-2 c =
     let d = c .before .before .before .before .before .before in
     sym (d .before .loop .inv .1
     ∙ walk-absent (T d) (G d) (X d) (GX d) (K d) (B d) (R d) (L d) (d .loop-test .taken) (sym (c .before .before .before .before .before .descend .ensures) ∙ c .before .before .before .below .given .1 ∙ ap {B = Descent} Read (c .enum-told2 .given .1)))
@@ -98,16 +98,18 @@ loop-less : tie.Need-loop-less Inv-loop μ-loop
 loop-less c = search needs
 
 loop-again : tie.Need-loop-again Inv-loop μ-loop
-loop-again c = 
-    let d = c .before .before .before .before .before .before .before in
-    (search needs, d .before .loop .inv .1
-    ∙ walk-down (T d) (G d) (X d) (GX d) (K d) (B d) (R d) (L d) (d .loop-test .taken) (c .before .below2 .given .0 .0) (sym (c .before .before .before .before .before .before .descend .ensures) ∙ c .before .before .before .before .below .given .1 ∙ ap {B = Descent} Read (c .before .below2 .given .1)))
+loop-again c =
+    let d = c .before .before .before .before .before .before .before in (
+      search needs,
+      d .before .loop .inv .1
+          ∙ walk-down (T d) (G d) (X d) (GX d) (K d) (B d) (R d) (L d) (d .loop-test .taken) (c .before .below2 .given .0 .0) (sym (c .before .before .before .before .before .before .descend .ensures) ∙ c .before .before .before .before .below .given .1 ∙ ap {B = Descent} Read (c .before .below2 .given .1)),
+    )
 
 find-in-data-requires : tie.Need-find-in-data-requires Inv-loop μ-loop
 find-in-data-requires c κs = (c .before .before .before .before .before .before .pre .sound, c .before .before .before .before .before .before .pre .short)
 
 returns-3 : tie.Need-returns-3 Inv-loop μ-loop
-returns-3 c = 
+returns-3 c =
     let l = c .before .before .loop in
     let v = c .before .before .before .before .before .before .before .args in
     c .find-in-data .ensures

@@ -1,0 +1,10 @@
+pub mod PairLaws
+pub mod TreeRuleLaws
+pub mod RuleLaws
+pub mod RunLaws
+pub mod LeafLaws
+pub mod AgreeLaws
+pub mod Demand
+pub mod HoldingLaws
+pub mod FollowLaws
+pub mod TreeLaws

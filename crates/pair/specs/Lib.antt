@@ -1,0 +1,4 @@
+pub mod Tree
+pub mod Pair
+pub mod Rules
+pub mod Steps

@@ -1,0 +1,54 @@
+-- The pair check: the table check, 13, 21 to 26, then 27. Definitions only.
+use Prim.Native.Nat.{ℕ}
+use mathlib.Core.Bool.{Bool, cond, _&&_}
+use mathlib.Core.List.{List}
+use lib.Dec.{eqb, leb}
+use lib.ListN.{length}
+use Rattle.header.specs.Refusals.{badArgument, indexTree, firstBroken}
+use Rattle.header.specs.Header.{headerOf}
+use Rattle.header.specs.declared.Header.{Header}
+use Rattle.blocks.specs.Shape.{shapeOf}
+use Rattle.chain.specs.Links.{usedOf}
+use Rattle.table.specs.Records.{recordsOf}
+use Rattle.table.specs.Table.{tableAnswer, tableMarks}
+use Rattle.scan.specs.Scan.{scanOf}
+use Rattle.index.specs.Header.{indexOf}
+use Rattle.index.specs.Walk.{walkOf}
+use Rattle.index.specs.declared.IndexHeader.{IndexHeader}
+use Rattle.pair.specs.declared.Lookups.{Lookups}
+use Rattle.pair.specs.Tree.{fits, treeLeaves, firstKeys, sameEntries}
+
+-- root 0 fits exactly when there are no records
+unfoldable pub emptyFits : List ℕ → Header → Bool
+emptyFits t h = eqb (length (recordsOf t h)) 0
+
+-- another root fits when its block does, and its level 1 entries name the used blocks that hold records, in chain order, each with
+-- that block's first key
+unfoldable pub rootFits : List ℕ → Header → List ℕ → IndexHeader → Bool
+rootFits t h x i =
+    fits x (i .shape) (h .key) (i .levels) (i .root)
+    && sameEntries (treeLeaves x (i .shape) (h .key) (i .levels) (i .root)) (firstKeys t (shapeOf h) (h .key) (usedOf t h))
+
+-- 27: the tree fits
+unfoldable pub treeFits : List ℕ → Header → List ℕ → IndexHeader → Bool
+treeFits t h x i = cond (eqb (i .root) 0) (emptyFits t h) (rootFits t h x i)
+
+-- 21 to 26, then 27
+unfoldable pub indexFits : List ℕ → Header → List ℕ → IndexHeader → ℕ
+indexFits t h x i = cond (eqb (i .refusal) 0) (firstBroken (treeFits t h x i) indexTree 0) (i .refusal)
+
+-- 13 comes before them: no key fields
+unfoldable pub keyedAnswer : List ℕ → Header → List ℕ → ℕ
+keyedAnswer t h x = firstBroken (leb 1 (h .keys)) badArgument (indexFits t h x (indexOf x (h .key)))
+
+-- what checking a pair answers, for any bytes and a mark buffer of `room` bytes: the table check comes first
+unfoldable pub pairAnswer : List ℕ → List ℕ → ℕ → ℕ
+pairAnswer t x room = cond (eqb (tableAnswer t room) 0) (keyedAnswer t (headerOf t) x) (tableAnswer t room)
+
+-- what it leaves in the mark buffer: what the table check does, also where 13 or 21 to 27 is the answer
+abbrev pub pairMarks : List ℕ → List ℕ → List ℕ
+pairMarks t m = tableMarks t m
+
+-- what checking a pair and looking a key up both ways answers
+unfoldable pub lookupsOf : List ℕ → List ℕ → List ℕ → ℕ → Lookups
+lookupsOf t x key room = record { pair = pairAnswer t x room; walk = walkOf t x key; scan = scanOf t key room }
