@@ -6,7 +6,7 @@ use mathlib.Core.Logic.{_⊎_}
 use lib.ListN.{length, getD}
 use Rattle.words.specs.Numbers.{byte}
 use Rattle.header.specs.Kinds.{kindOf, Permitted}
-use Rattle.header.specs.Stored.{storedOf, blockSize, encryptionAt, areaAt, namesAt}
+use Rattle.header.specs.Stored.{storedOf, unit, blockSize, encryptionAt, areaAt, namesAt}
 use Rattle.header.specs.Fields.{widthAt, kindAt, widthSum, longestName}
 use Rattle.header.specs.Header.{leastHeader, leastVersion, mostVersion, mostUnits, blockHead, mostBlocks, mostFields, mostRecords, headerOf}
 use Rattle.header.specs.declared.Header.{Header}
@@ -73,8 +73,8 @@ pub record Accepted (t : List ℕ) (h : Header) : Type 0 where
   pub same : h ≡ headerOf t
   pub whole : length t ≡ h .header + h .blocks * h .block
   pub header-least : leastHeader ≤ h .header
-  pub block-least : 1024 ≤ h .block
-  pub block-most : h .block ≤ mostUnits * 1024
+  pub block-least : unit ≤ h .block
+  pub block-most : h .block ≤ mostUnits * unit
   pub blocks-most : h .blocks ≤ mostBlocks
   pub size-least : 1 ≤ h .size
   pub size-most : h .size + blockHead ≤ h .block

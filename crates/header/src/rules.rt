@@ -1,5 +1,6 @@
 // Table rules 2 to 6 as tests of the stored numbers, and the limits that they name.
-// The module is private: its functions are helpers of `header::read`, which meets what they require.
+// The module is private: its functions are helpers of `header::read`, which meets what they require. Those for 23 and 26
+// serve the index too.
 ghost use mathlib.Core.Path.{_≡_};
 ghost use Prim.Native.Nat.{_+_, _≤_};
 ghost use lib.Dec.{ltb};

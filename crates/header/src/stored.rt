@@ -3,7 +3,7 @@
 ghost use mathlib.Core.Path.{_≡_};
 ghost use Prim.Native.Nat.{_+_, _*_, _≤_};
 ghost use lib.ListN.{length};
-ghost use Rattle.header.specs.Stored.{areaAt, encryptionAt, namesAt, storedOf};
+ghost use Rattle.header.specs.Stored.{areaAt, encryptionAt, namesAt, storedOf, unit};
 ghost use Rattle.header.specs.Header.{leastHeader, mostFields, mostUnits};
 
 // Where each number stands.
@@ -102,17 +102,17 @@ pub fn encryption_at(version: u8) -> usize
     }
 }
 
-// The block size in bytes, whatever byte 05 holds.
+// The block size in bytes, whatever byte 05 holds; of an index too.
 pub fn block_size(units: u8) -> u32
-    ensures { λ r. ⌜ r ≡ units * 1024 ⌝ }
+    ensures { λ r. ⌜ r ≡ units * unit ⌝ }
 {
     (units as u32) * UNIT
 }
 
-// The block size of a header that keeps rule 5.
+// The block size of a header that keeps rule 5, or 25. A helper: its caller has judged byte 05.
 pub fn block_bytes(units: u8) -> u16
     requires { ⌜ units ≤ mostUnits ⌝ }
-    ensures { λ r. ⌜ r ≡ units * 1024 ⌝ }
+    ensures { λ r. ⌜ r ≡ units * unit ⌝ }
 {
     block_size(units) as u16
 }

@@ -20,7 +20,7 @@ refusal-with (suc m) x = refl
 
 module _ (x : List ℕ) (n : ℕ) where
   -- the header's number is the first broken rule's
-  pub refusal-is : indexOf x n .refusal ≡ indexAnswer x n
+  refusal-is : indexOf x n .refusal ≡ indexAnswer x n
   unfolding indexOf
   refusal-is = refusal-with (indexAnswer x n) x
 

@@ -1,7 +1,7 @@
 -- The entries of an index block: how many there are, that they are inside the file, and the block that a key leads to, entry by entry
 -- from the last one. Assumes nothing.
 use Prim.Native.Nat.{ℕ, zero, suc, _+_, _-_, _≤_, _<_}
-use mathlib.Core.Path.{_≡_, refl, sym, _∙_}
+use mathlib.Core.Path.{_≡_, refl, _∙_}
 use mathlib.Core.Bool.{Bool, true, false}
 use mathlib.Core.List.{List}
 use native.Mathlib.Nat.{not-suc-le-zero}
@@ -21,7 +21,7 @@ use Rattle.table.specs.Steps.{RunInside}
 use Rattle.table.proofs.KeyLaws.{run-inside}
 use Rattle.index.specs.Header.{entryNumbers}
 use Rattle.index.specs.Entries.{entriesIn, entryKey, entryBlock, below}
-use Rattle.index.specs.Steps.{Entries, descentOf}
+use Rattle.index.specs.Steps.{EntriesInside, descentOf}
 use Rattle.index.specs.declared.entries.Below.the-variants.{Block, Nothing}
 use Rattle.index.specs.declared.entries.Descent.the-variants.{Read, Refused}
 
@@ -60,12 +60,12 @@ module _ (x : List ℕ) (g : Shape) (b : ℕ) where
 
   -- ---- where they stand
 
-  pub entries-inside : (n : ℕ) → Entries x g n → 0 < entriesIn x g b → entriesIn x g b < 65536 → RunInside x g (n + entryNumbers) b (entriesIn x g b)
+  pub entries-inside : (n : ℕ) → EntriesInside x g n → 0 < entriesIn x g b → entriesIn x g b < 65536 → RunInside x g (n + entryNumbers) b (entriesIn x g b)
   entries-inside n a l few =
       let w = with-entries l in
       run-inside x g (a .sound) b (w .low) (w .high) (entriesIn x g b) (w .counted) (n + entryNumbers) (omega (arith, a .size)) few
 
-  pub entry-inside : (n i : ℕ) → Entries x g n → i < entriesIn x g b → recordAt g b i + n + entryNumbers ≤ length x
+  pub entry-inside : (n i : ℕ) → EntriesInside x g n → i < entriesIn x g b → recordAt g b i + n + entryNumbers ≤ length x
   entry-inside n i a l =
       let w = with-entries (omega arith) in
       omega (arith, a .size, record-in-file x g (a .sound) b (entriesIn x g b) (w .counted) (w .low) (w .high) i l)

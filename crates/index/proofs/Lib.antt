@@ -3,3 +3,4 @@ pub mod HeaderLaws
 pub mod AcceptedLaws
 pub mod EntryLaws
 pub mod WalkLaws
+pub mod ReadsLaws

@@ -26,7 +26,6 @@ use Rattle.index.specs.Walk.{foundAfter, refusedWalk, byCount, inData, o
 use Rattle.index.specs.declared.IndexHeader.{IndexHeader}
 use Rattle.index.specs.declared.entries.Below.{Below}
 use Rattle.index.specs.declared.entries.Below.the-variants.{Block, Nothing}
-use Rattle.index.specs.declared.entries.Descent.{Descent}
 use Rattle.index.specs.declared.entries.Descent.the-variants.{Read, Refused}
 use Rattle.index.specs.declared.lookup.Walked.{Walked}
 use Rattle.index.proofs.AcceptedLaws.{accepted-index}

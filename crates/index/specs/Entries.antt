@@ -23,9 +23,13 @@ entriesIn x g b = cond (hasBlock g b) (held (countIn x g b)) 0
 abbrev pub entryKey : List ℕ → Shape → ℕ → ℕ → ℕ → List ℕ
 entryKey x g n b i = keyAt x g n (record { block = b; place = i })
 
+-- a block's number at an offset: two bytes, the top bit complemented
+unfoldable pub blockNumber : List ℕ → ℕ → ℕ
+blockNumber x at = complemented (half 2) (big x at 2)
+
 -- the block that entry i of index block b names
 unfoldable pub entryBlock : List ℕ → Shape → ℕ → ℕ → ℕ → ℕ
-entryBlock x g n b i = complemented (half 2) (big x (recordAt g b i + n) 2)
+entryBlock x g n b i = blockNumber x (recordAt g b i + n)
 
 -- the block that is named by the last, by place, of the first m entries of index block b whose key is at most the one sought
 unfoldable pub below : List ℕ → Shape → List ℕ → ℕ → ℕ → Below

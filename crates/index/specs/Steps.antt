@@ -14,7 +14,7 @@ use Rattle.index.specs.declared.entries.Descent.{Descent}
 use Rattle.index.specs.declared.entries.Descent.the-variants.{Read, Refused}
 
 -- what reading entries asks: they are in the file, and an entry is a key of n bytes and its numbers
-pub record Entries (x : List ℕ) (g : Shape) (n : ℕ) : Type 0 where
+pub record EntriesInside (x : List ℕ) (g : Shape) (n : ℕ) : Type 0 where
   pub sound : Sound x g
   pub size : g .size ≡ n + entryNumbers
 
@@ -26,5 +26,5 @@ descentOf x g key b = cond (eqb (entriesIn x g b) 0) Refused (Read (below x g ke
 pub record Walkable (t : List ℕ) (g : Shape) (x : List ℕ) (i : IndexHeader) (key : List ℕ) : Type 0 where
   pub sound : Sound t g
   pub short : length key ≤ g .size
-  pub entries : Entries x (i .shape) (length key)
+  pub entries : EntriesInside x (i .shape) (length key)
   pub few : i .levels ≤ mostLevels

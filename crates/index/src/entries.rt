@@ -2,13 +2,11 @@
 ghost use mathlib.Core.Path.{_≡_};
 ghost use Prim.Native.Nat.{_+_, _≤_};
 ghost use lib.ListN.{length};
-ghost use Rattle.words.specs.Numbers.{big};
-ghost use Rattle.words.specs.Signed.{complemented, half};
 ghost use Rattle.blocks.specs.Shape.{Sound};
 ghost use Rattle.table.specs.Steps.{RunInside};
 ghost use Rattle.index.specs.Header.{entryNumbers};
-ghost use Rattle.index.specs.Entries.{below, entriesIn};
-ghost use Rattle.index.specs.Steps.{Entries, descentOf};
+ghost use Rattle.index.specs.Entries.{below, blockNumber, entriesIn};
+ghost use Rattle.index.specs.Steps.{EntriesInside, descentOf};
 use blocks::Count;
 use blocks::Shape;
 
@@ -44,10 +42,10 @@ pub fn entries_in(x: &[u8], shape: Shape, block: usize) -> u16
     count
 }
 
-// The block that an entry names by the number at a place. A helper: its caller has found the entry in the file.
+// The block that an entry names by the number at an offset. A helper: its caller has found the entry in the file.
 pub fn block_named(x: &[u8], at: usize) -> u16
     requires { ⌜ at + 2 ≤ length (now x) ⌝ }
-    ensures { λ r. ⌜ r ≡ complemented (half 2) (big (now (x .entry)) at 2) ⌝ }
+    ensures { λ r. ⌜ r ≡ blockNumber (now (x .entry)) at ⌝ }
 {
     let number = words::number(x, at, NUMBER_WIDTH);
     if TOP_BIT <= number {
@@ -74,7 +72,7 @@ fn find_below(x: &[u8], shape: Shape, block: usize, count: u16, key: &[u8]) -> B
 
 // The way down from an index block.
 pub fn descend(x: &[u8], shape: Shape, block: usize, key: &[u8]) -> Descent
-    requires { ⌜ Entries (now x) shape (length (now key)) ⌝ }
+    requires { ⌜ EntriesInside (now x) shape (length (now key)) ⌝ }
     ensures { λ r. ⌜ r ≡ descentOf (now (x .entry)) shape (now (key .entry)) block ⌝ }
 {
     let count = entries_in(x, shape, block);

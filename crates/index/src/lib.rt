@@ -29,13 +29,13 @@ pub struct IndexHeader {
 
 // The header of an index to a table with keys of this length: the first of 21, 22, 23, 25 and 26 that any bytes
 // break, or the header's numbers.
-pub fn read(x: &[u8], key: u16) -> IndexHeader
-    ensures { λ r. ⌜ r ≡ indexOf (now (x .entry)) key ⌝ }
+pub fn read(index: &[u8], key: u16) -> IndexHeader
+    ensures { λ r. ⌜ r ≡ indexOf (now (index .entry)) key ⌝ }
 {
-    if x.len() < rules::LEAST_LENGTH {
+    if index.len() < rules::LEAST_LENGTH {
         return refused(refusal::INDEX_TOO_SHORT);
     }
-    let s = stored::read_stored(x);
+    let s = stored::read_stored(index);
     if !rules::is_index(s) {
         return refused(refusal::NOT_AN_INDEX);
     }
@@ -45,7 +45,7 @@ pub fn read(x: &[u8], key: u16) -> IndexHeader
     if !rules::limits_kept(s, key) {
         return refused(refusal::INDEX_LIMIT);
     }
-    if !header::is_length_right(x.len(), s.header, s.blocks, s.units) {
+    if !header::is_length_right(index.len(), s.header, s.blocks, s.units) {
         return refused(refusal::INDEX_LENGTH);
     }
     accepted(s)

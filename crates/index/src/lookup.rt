@@ -91,8 +91,6 @@ fn find_in_data(table: &[u8], shape: Shape, block: usize, key: &[u8], reads: u8)
     let Count::Records(count) = blocks::count_in(table, shape, block) else {
         return refused(refusal::WRONG_COUNT);
     };
-    Walked {
-        found: scan::find_in_block(table, shape, block, count, key),
-        reads,
-    }
+    let found = scan::find_in_block(table, shape, block, count, key);
+    Walked { found, reads }
 }

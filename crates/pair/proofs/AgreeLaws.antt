@@ -11,6 +11,7 @@ use borrow.Author.Tests.{eqb-true}
 use Rattle.words.specs.Each.{each}
 use Rattle.words.specs.Order.{isAtMost, order}
 use Rattle.words.proofs.Conjunctions.{both}
+use Rattle.words.proofs.EachLaws.{each-last}
 use Rattle.header.specs.declared.Header.{Header}
 use Rattle.blocks.specs.Shape.{shapeOf}
 use Rattle.blocks.specs.declared.Shape.{Shape}
@@ -30,7 +31,8 @@ use Rattle.index.specs.declared.entries.Below.the-variants.{Block}
 use Rattle.pair.specs.Tree.{Entry, entryAt, keyRight, fits, joined, leaves, treeLeaves, firstKeys, sameEntries}
 use Rattle.pair.specs.Pair.{emptyFits, rootFits, treeFits}
 use Rattle.pair.proofs.RunLaws.{All, all-append, Ascends, ascends-takes, ascends-append, Starts, second-run, first-run}
-use Rattle.pair.proofs.LeafLaws.{same-entries, recordsUnder, under-append, Leaf, under-first, first-leaves, under, fitting, block-fits, entry-fits, each-last, leaves-start}
+use Rattle.pair.proofs.LeafLaws.{recordsUnder, under-append, Leaf, under-first, first-leaves, leaves-start}
+use Rattle.pair.proofs.FitLaws.{entries-gives, fitting, under, entry-fits, block-fits}
 
 module _ (t : List ℕ) (g : Shape) (x : List ℕ) (gx : Shape) (key : List ℕ) where
   -- the key length
@@ -63,7 +65,7 @@ module _ (t : List ℕ) (g : Shape) (x : List ℕ) (gx : Shape) (key : List ℕ)
     unfolding joined below onward foundAfter recordsIn firstWith
     agrees-joined zero f h s = refl
     agrees-joined (suc i) f h s =
-        go (isAtMost (order (entryKey x gx n b i) key)) refl (agrees-joined i (each-last x gx n level b i f .0) (parts .0) (ascends-append t g n us vs ascends .0))
+        go (isAtMost (order (entryKey x gx n b i) key)) refl (agrees-joined i (each-last (fitting x gx n level b) i f .0) (parts .0) (ascends-append t g n us vs ascends .0))
         ∙ ap (firstWith t g key) (sym (under-append t g (joins i) (under x gx n level b i)))
       where
         us : List Position
@@ -73,7 +75,7 @@ module _ (t : List ℕ) (g : Shape) (x : List ℕ) (gx : Shape) (key : List ℕ)
         vs = recordsUnder t g (under x gx n level b i)
 
         entry : (fits x gx n level (entryBlock x gx n b i) ≡ true) × (keyRight x gx n level (entryAt x gx n b i) ≡ true)
-        entry = entry-fits x gx n level b i (each-last x gx n level b i f .1)
+        entry = entry-fits x gx n level b i (each-last (fitting x gx n level b) i f .1)
 
         parts : All (Leaf t g n) (joins i) × All (Leaf t g n) (under x gx n level b i)
         parts = all-append (Leaf t g n) (joins i) (under x gx n level b i) h
@@ -116,7 +118,7 @@ module _ (t : List ℕ) (h : Header) (x : List ℕ) (i : IndexHeader) (key : Lis
       let g = shapeOf h in
       let root : Entry = record { key = []; block = i .root } in
       let p = both {a = fits x (i .shape) (h .key) (i .levels) (i .root)} {b = sameEntries (treeLeaves x (i .shape) (h .key) (i .levels) (i .root)) (firstKeys t g (h .key) (usedOf t h))} e in
-      let s : leaves x (i .shape) (length key) (i .levels) root ≡ firstKeys t g (length key) (usedOf t h) = rw size (same-entries _ _ (p .1)) in
+      let s : leaves x (i .shape) (length key) (i .levels) root ≡ firstKeys t g (length key) (usedOf t h) = rw size (entries-gives _ _ (p .1)) in
       let r : recordsUnder t g (leaves x (i .shape) (length key) (i .levels) root) ≡ recordsOf t h = ap (recordsUnder t g) s ∙ under-first t g (length key) (usedOf t h) in
       agrees t g x (i .shape) key (i .levels) root 0 (rw size (p .0)) (rw s (first-leaves t g (length key) (h .first) (usedOf t h) (good-begins t h a))) (rw r ascending)
       ∙ ap (firstWith t g key) r

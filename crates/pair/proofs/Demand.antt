@@ -23,9 +23,9 @@ use Rattle.index.specs.Header.{indexOf}
 use Rattle.index.specs.Walk.{walkTree, walkOf, numbersOf, walkNumbers}
 use Rattle.index.specs.declared.lookup.Walked.{Walked}
 use Rattle.index.proofs.WalkLaws.{walk-tree}
-use Rattle.pair.specs.Pair.{pairAnswer, pairMarks, lookupsOf}
+use Rattle.pair.specs.Pair.{pairAnswer, pairMarks, lookedUpOf}
 use Rattle.pair.specs.Rules.{Agreement, Agreeing}
-use Rattle.pair.specs.declared.Lookups.{Lookups}
+use Rattle.pair.specs.declared.LookedUp.{LookedUp}
 use Rattle.pair.proofs.PairLaws.{pair-parts}
 use Rattle.pair.proofs.AgreeLaws.{walk-agrees}
 
@@ -84,7 +84,7 @@ module _ (t x key : List ℕ) (room room₂ : ℕ) (e : pairAnswer t x room ≡ 
   answers = scan-answers t key room₂ table fits
 
   -- so their numbers are the same, and say what the scan says of the records
-  agreement : Agreement t key (walkNumbers t x key .0) (scanLookup t key room₂)
+  agreement : Agreement t (headerOf t) key (walkNumbers t x key .0) (scanLookup t key room₂)
   unfolding walkNumbers numbersOf scanLookup lookupOf
   agreement =
       record {
@@ -109,14 +109,14 @@ demand-3-found t x key room room₂ e l size = walk-scans t x key room room₂ e
 
 -- the same by their numbers, and what they say of the records
 pub demand-3 : (t x key : List ℕ) (room room₂ : ℕ) → pairAnswer t x room ≡ 0 → headerOf t .blocks ≤ room₂ → length key ≡ headerOf t .key →
-    Agreement t key (walkNumbers t x key .0) (scanLookup t key room₂)
+    Agreement t (headerOf t) key (walkNumbers t x key .0) (scanLookup t key room₂)
 demand-3 t x key room room₂ e l size = agreement t x key room room₂ e (again t x room room₂ e l) size
 
 -- the three calls one after another on one mark buffer: m as it was lent, m₁ as the pair check leaves it, m₂ as the scan does
 module _ (t x key m m₁ m₂ : List ℕ) (pair : ℕ) (walk : Walked) (scan : Found) where
   pub looked-up : pair ≡ pairAnswer t x (length m) → m₁ ≡ pairMarks t m → length m₁ ≡ length m → walk ≡ walkOf t x key → scan ≡ scanOf t key (length m₁) → m₂ ≡ scanMarks t m₁ →
-      (_≡_ {A = Lookups} (record { pair = pair; walk = walk; scan = scan }) (lookupsOf t x key (length m))) × (m₂ ≡ pairMarks t m) × Agreeing t key (record { pair = pair; walk = walk; scan = scan })
-  unfolding lookupsOf walkNumbers scanLookup
+      (_≡_ {A = LookedUp} (record { pair = pair; walk = walk; scan = scan }) (lookedUpOf t x key (length m))) × (m₂ ≡ pairMarks t m) × Agreeing t key (record { pair = pair; walk = walk; scan = scan })
+  unfolding lookedUpOf walkNumbers scanLookup
   looked-up e marks long w s left =
       let found : scan ≡ scanOf t key (length m) = s ∙ ap (scanOf t key) long in (
         rw (e, w, found),

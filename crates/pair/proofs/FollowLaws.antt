@@ -18,12 +18,13 @@ use Rattle.blocks.specs.declared.Shape.{Shape}
 use Rattle.chain.specs.Links.{nextOf}
 use Rattle.table.specs.Steps.{GoodChain}
 use Rattle.index.specs.Entries.{entriesIn, entryKey, entryBlock}
-use Rattle.pair.specs.Tree.{Entry, entryAt, keyRight, fits, joined, leaves, treeLeaves, firstKeys, sameEntries}
+use Rattle.pair.specs.Tree.{Entry, entryAt, keyRight, fits, joined, leaves, treeLeaves, firstEntry, firstKeys, sameEntries}
 use Rattle.pair.specs.Steps.{holdingFrom, isExpected, follow, leafFrom, entryFrom, blockFrom, Descendable}
 use Rattle.pair.specs.declared.tree.Fit.{Fit}
 use Rattle.pair.specs.declared.tree.Fit.the-variants.{Next, Unfit}
 use Rattle.pair.specs.declared.tree.Shapes.{Shapes}
-use Rattle.pair.proofs.HoldingLaws.{blocksFrom, firstOf, keys-ended, keys-next}
+use Rattle.pair.proofs.FitLaws.{fitting, under}
+use Rattle.pair.proofs.HoldingLaws.{blocksFrom, keys-ended, keys-next}
 
 -- one part of a tree after another
 abbrev andThen : Fit → (ℕ → Fit) → Fit
@@ -50,14 +51,14 @@ module _ (t : List ℕ) (g : Shape) (n : ℕ) where
     unexpected-end z = rw z
 
     module _ (ne : holdingFrom t g c ≡ 0 → ⊥) where
-      expected-by : isExpected t g n e c ≡ (eqb (e .block) (holdingFrom t g c) && isSame (order (e .key) (firstOf t g n (holdingFrom t g c) .key)))
+      expected-by : isExpected t g n e c ≡ (eqb (e .block) (holdingFrom t g c) && isSame (order (e .key) (firstEntry t g n (holdingFrom t g c) .key)))
       unfolding isExpected
       expected-by = rw (ne-eqb (holdingFrom t g c) 0 ne)
 
       pub unexpected-block : (e .block ≡ holdingFrom t g c → ⊥) → isExpected t g n e c ≡ false
       unexpected-block other = expected-by ∙ rw (ne-eqb (e .block) (holdingFrom t g c) other)
 
-      expected-key : e .block ≡ holdingFrom t g c → isExpected t g n e c ≡ isSame (order (e .key) (firstOf t g n (holdingFrom t g c) .key))
+      expected-key : e .block ≡ holdingFrom t g c → isExpected t g n e c ≡ isSame (order (e .key) (firstEntry t g n (holdingFrom t g c) .key))
       expected-key same = expected-by ∙ rw (eq-eqb (e .block) (holdingFrom t g c) same)
 
       -- by a comparison with the first record of block b, which stands at an offset
@@ -74,7 +75,7 @@ module _ (t : List ℕ) (g : Shape) (n : ℕ) where
     follow-none x = rw x
 
   -- the chain stays good
-  pub follow-good : (us : List Entry) (c d : ℕ) → GoodChain t g c (blocksFrom t g c) → follow t g n us c ≡ Next d → GoodChain t g d (blocksFrom t g d)
+  follow-good : (us : List Entry) (c d : ℕ) → GoodChain t g c (blocksFrom t g c) → follow t g n us c ≡ Next d → GoodChain t g d (blocksFrom t g d)
   unfolding follow
   follow-good [] c d good e = let z : c ≡ d = cc in rw (← z) good
   follow-good (u ∷ us) c d good e = go (eqb (holdingFrom t g c) 0) refl (isExpected t g n u c) refl (follow-good us (nextOf t g (holdingFrom t g c)) d)
@@ -113,7 +114,7 @@ module _ (t : List ℕ) (g : Shape) (n : ℕ) where
           let ne = eqb-false (holdingFrom t g c) 0 z in
           let w = keys-next t g n c good ne in
           rw (expected-by u c ne, w .1)
-          (by-test (eqb (u .block) (holdingFrom t g c)) (isSame (order (u .key) (firstOf t g n (holdingFrom t g c) .key))) (sameEntries us (firstKeys t g n (blocksFrom t g (nextOf t g (holdingFrom t g c)))))
+          (by-test (eqb (u .block) (holdingFrom t g c)) (isSame (order (u .key) (firstEntry t g n (holdingFrom t g c) .key))) (sameEntries us (firstKeys t g n (blocksFrom t g (nextOf t g (holdingFrom t g c)))))
           (follow t g n us (nextOf t g (holdingFrom t g c))) (ih (nextOf t g (holdingFrom t g c)) (w .0 .onward)))
 
 -- ---- down the tree
@@ -128,15 +129,9 @@ module _ (t x : List ℕ) (s : Shapes) where
   abbrev n : ℕ
   n = s .key
 
-  abbrev fitting : ℕ → ℕ → ℕ → Bool
-  fitting level b i = fits x gx n level (entryBlock x gx n b i) && keyRight x gx n level (entryAt x gx n b i)
-
-  abbrev under : ℕ → ℕ → ℕ → List Entry
-  under level b i = leaves x gx n level (entryAt x gx n b i)
-
   -- the first i entries of index block b, whose blocks are at a level
   abbrev pub upTo : ℕ → ℕ → ℕ → ℕ → Fit
-  upTo level b i c = cond (each (fitting level b) i) (follow t g n (joined (under level b) i) c) Unfit
+  upTo level b i c = cond (each (fitting x gx n level b) i) (follow t g n (joined (under x gx n level b) i) c) Unfit
 
   pub upTo-none : (level b c : ℕ) → upTo level b 0 c ≡ Next c
   unfolding each joined follow
@@ -144,7 +139,7 @@ module _ (t x : List ℕ) (s : Shapes) where
 
   upTo-suc : (level b i c : ℕ) → upTo level b (suc i) c ≡ andThen (upTo level b i c) (entryFrom t x s level (entryAt x gx n b i))
   unfolding each joined entryFrom
-  upTo-suc level b i c = go (each (fitting level b) i) (fitting level b i) (joined (under level b) i) (under level b i)
+  upTo-suc level b i c = go (each (fitting x gx n level b) i) (fitting x gx n level b i) (joined (under x gx n level b) i) (under x gx n level b i)
     where
       unfit : (f : Fit) → Unfit ≡ andThen f (λ (d : ℕ). Unfit)
       unfit (Next d) = refl
@@ -164,10 +159,10 @@ module _ (t x : List ℕ) (s : Shapes) where
 
   -- the chain stays good
   upTo-good : (level b i c d : ℕ) → GoodChain t g c (blocksFrom t g c) → upTo level b i c ≡ Next d → GoodChain t g d (blocksFrom t g d)
-  upTo-good level b i c d good e = go (each (fitting level b) i) e
+  upTo-good level b i c d good e = go (each (fitting x gx n level b) i) e
     where
-      go : (p : Bool) → cond p (follow t g n (joined (under level b) i) c) Unfit ≡ Next d → GoodChain t g d (blocksFrom t g d)
-      go true f = follow-good t g n (joined (under level b) i) c d good f
+      go : (p : Bool) → cond p (follow t g n (joined (under x gx n level b) i) c) Unfit ≡ Next d → GoodChain t g d (blocksFrom t g d)
+      go true f = follow-good t g n (joined (under x gx n level b) i) c d good f
       go false f = let o : _≡_ {A = ℕ} 0 1 = cc in absurd (omega arith)
 
   pub descend-on : (level b i c d : ℕ) → Descendable t x s c → upTo level b i c ≡ Next d → Descendable t x s d
@@ -185,7 +180,7 @@ module _ (t x : List ℕ) (s : Shapes) where
   block-by zero b c l = absurd (not-suc-le-zero l)
   block-by (suc level) b c l =
       let e : suc level - 1 ≡ level = omega arith in
-      rw e (go (eqb (entriesIn x gx b) 0) (each (fitting level b) (entriesIn x gx b)) (follow t g n (joined (under level b) (entriesIn x gx b)) c))
+      rw e (go (eqb (entriesIn x gx b) 0) (each (fitting x gx n level b) (entriesIn x gx b)) (follow t g n (joined (under x gx n level b) (entriesIn x gx b)) c))
     where
       go : (p q : Bool) (f : Fit) → cond (not p && q) f Unfit ≡ cond p Unfit (cond q f Unfit)
       go true q f = refl
@@ -232,7 +227,7 @@ module _ (t x : List ℕ) (s : Shapes) where
   entry-by : (level : ℕ) (e : Entry) (c : ℕ) → 1 ≤ level → entryFrom t x s level e c ≡ cond (isSame (order (e .key) (entryKey x gx n (e .block) 0))) (blockFrom t x s level (e .block) c) Unfit
   unfolding entryFrom blockFrom keyRight leaves
   entry-by zero e c l = absurd (not-suc-le-zero l)
-  entry-by (suc level) e c l = go (fits x gx n (suc level) (e .block)) (isSame (order (e .key) (entryKey x gx n (e .block) 0))) (follow t g n (joined (under level (e .block)) (entriesIn x gx (e .block))) c)
+  entry-by (suc level) e c l = go (fits x gx n (suc level) (e .block)) (isSame (order (e .key) (entryKey x gx n (e .block) 0))) (follow t g n (joined (under x gx n level (e .block)) (entriesIn x gx (e .block))) c)
     where
       go : (p q : Bool) (f : Fit) → cond (p && q) f Unfit ≡ cond q (cond p f Unfit) Unfit
       go true true f = refl

@@ -1,11 +1,10 @@
 -- The used blocks that hold records, one after another: where the next one is, and that they are those of the first keys.
 -- Assumes nothing.
 use Prim.Native.Nat.{ℕ, zero, suc, _≤_}
-use mathlib.Core.Path.{_≡_, refl, sym, ap, _∙_}
-use mathlib.Core.Bool.{Bool, true, false, cond}
+use mathlib.Core.Path.{_≡_, refl, ap, _∙_}
 use mathlib.Core.List.{List, [], _∷_}
 use native.Mathlib.Omega.{arith}
-use lib.Dec.{eqb, eqb·suc-zero}
+use lib.Dec.{eqb·suc-zero}
 use borrow.Author.Tests.{eq-eqb, ne-eqb}
 use Rattle.blocks.specs.Counts.{countIn}
 use Rattle.blocks.specs.declared.Shape.{Shape}
@@ -13,10 +12,9 @@ use Rattle.blocks.specs.declared.count.Count.the-variants.{Records}
 use Rattle.chain.specs.Chain.{chainFrom}
 use Rattle.chain.specs.Links.{nextOf}
 use Rattle.table.specs.Records.{held}
-use Rattle.table.specs.Keys.{keyAt}
 use Rattle.table.specs.Steps.{GoodChain}
 use Rattle.table.proofs.GoodChainLaws.{good-some, good-ends, good-follows, good-on}
-use Rattle.pair.specs.Tree.{Entry, firstKeys}
+use Rattle.pair.specs.Tree.{firstEntry, firstKeys}
 use Rattle.pair.specs.Steps.{firstHolding, holdingFrom}
 
 module _ (t : List ℕ) (g : Shape) where
@@ -50,23 +48,19 @@ module _ (t : List ℕ) (g : Shape) where
     pub onward : GoodChain t g (nextOf t g b) (blocksFrom (nextOf t g b))
 
   module _ (n : ℕ) where
-    -- a block with its first key
-    abbrev pub firstOf : ℕ → Entry
-    firstOf b = record { key = keyAt t g n (record { block = b; place = 0 }); block = b }
-
     -- what some blocks of a chain come to: none holds records, or the first one that does, and those after it
-    data Found (bs : List ℕ) : ℕ → Type 0 where
-      none : firstKeys t g n bs ≡ [] → Found bs 0
-      some : {b : ℕ} → Holding b → firstKeys t g n bs ≡ firstOf b ∷ firstKeys t g n (blocksFrom (nextOf t g b)) → Found bs b
+    data FirstHeld (bs : List ℕ) : ℕ → Type 0 where
+      none : firstKeys t g n bs ≡ [] → FirstHeld bs 0
+      some : {b : ℕ} → Holding b → firstKeys t g n bs ≡ firstEntry t g n b ∷ firstKeys t g n (blocksFrom (nextOf t g b)) → FirstHeld bs b
 
-    found : (b : ℕ) (bs : List ℕ) → GoodChain t g b bs → Found bs (firstHolding t g bs)
+    first-held : (b : ℕ) (bs : List ℕ) → GoodChain t g b bs → FirstHeld bs (firstHolding t g bs)
     unfolding firstHolding firstKeys held
-    found b [] c = none refl
-    found b (x ∷ bs) c =
+    first-held b [] c = none refl
+    first-held b (x ∷ bs) c =
         let w = good-some t g b x bs c .1 in
-        go (w .count) (w .counted) (firstHolding t g bs) refl (found (nextOf t g x) bs (w .onward))
+        go (w .count) (w .counted) (firstHolding t g bs) refl (first-held (nextOf t g x) bs (w .onward))
       where
-        go : (m : ℕ) → countIn t g x ≡ Records m → (k : ℕ) → firstHolding t g bs ≡ k → Found bs k → Found (x ∷ bs) (firstHolding t g (x ∷ bs))
+        go : (m : ℕ) → countIn t g x ≡ Records m → (k : ℕ) → firstHolding t g bs ≡ k → FirstHeld bs k → FirstHeld (x ∷ bs) (firstHolding t g (x ∷ bs))
         go zero e k r (none f) = rw (e, r) (none (rw e f))
         go zero e k r (some h f) = rw (e, r) (some h (rw e f))
         go (suc m) e k r f =
@@ -76,17 +70,17 @@ module _ (t : List ℕ) (g : Shape) where
 
     -- where none holds records, there are no first keys
     pub keys-ended : (c : ℕ) → GoodChain t g c (blocksFrom c) → holdingFrom t g c ≡ 0 → firstKeys t g n (blocksFrom c) ≡ []
-    keys-ended c good z = go (holdingFrom t g c) (found c (blocksFrom c) good) z
+    keys-ended c good z = go (holdingFrom t g c) (first-held c (blocksFrom c) good) z
       where
-        go : (b : ℕ) → Found (blocksFrom c) b → b ≡ 0 → firstKeys t g n (blocksFrom c) ≡ []
+        go : (b : ℕ) → FirstHeld (blocksFrom c) b → b ≡ 0 → firstKeys t g n (blocksFrom c) ≡ []
         go b (none f) z = f
         go b (some k f) z = absurd (omega (arith, k .low))
 
     -- else the next one that does is first, with its first key
     pub keys-next : (c : ℕ) → GoodChain t g c (blocksFrom c) → (holdingFrom t g c ≡ 0 → ⊥) →
-        Holding (holdingFrom t g c) × (firstKeys t g n (blocksFrom c) ≡ firstOf (holdingFrom t g c) ∷ firstKeys t g n (blocksFrom (nextOf t g (holdingFrom t g c))))
-    keys-next c good ne = go (holdingFrom t g c) (found c (blocksFrom c) good) ne
+        Holding (holdingFrom t g c) × (firstKeys t g n (blocksFrom c) ≡ firstEntry t g n (holdingFrom t g c) ∷ firstKeys t g n (blocksFrom (nextOf t g (holdingFrom t g c))))
+    keys-next c good ne = go (holdingFrom t g c) (first-held c (blocksFrom c) good) ne
       where
-        go : (b : ℕ) → Found (blocksFrom c) b → (b ≡ 0 → ⊥) → Holding b × (firstKeys t g n (blocksFrom c) ≡ firstOf b ∷ firstKeys t g n (blocksFrom (nextOf t g b)))
+        go : (b : ℕ) → FirstHeld (blocksFrom c) b → (b ≡ 0 → ⊥) → Holding b × (firstKeys t g n (blocksFrom c) ≡ firstEntry t g n b ∷ firstKeys t g n (blocksFrom (nextOf t g b)))
         go b (none f) ne = absurd (ne refl)
         go b (some k f) ne = (k, f)

@@ -2,88 +2,35 @@
 -- entry has the entry's key. Assumes nothing.
 use Prim.Native.Nat.{ℕ, zero, suc}
 use mathlib.Core.Path.{_≡_, refl, sym, ap, _∙_}
-use mathlib.Core.Bool.{Bool, true, false, cond, not, _&&_, false≢true}
-use mathlib.Core.List.{List, [], _∷_, _++_, map, append-assoc, map-append}
+use mathlib.Core.Bool.{true, false, cond, false≢true}
+use mathlib.Core.List.{List, [], _∷_, _++_, map, map-append}
 use lib.Dec.{eqb, eqb·suc-zero}
-use borrow.Author.Tests.{eqb-true, not-true}
 use Rattle.words.specs.Each.{each}
-use Rattle.words.specs.Order.{isSame, order}
-use Rattle.words.proofs.Conjunctions.{both}
-use Rattle.words.proofs.OrderLaws.{is-same, order-same}
+use Rattle.words.proofs.EachLaws.{each-last}
 use Rattle.blocks.specs.Shape.{hasBlock}
 use Rattle.blocks.specs.Counts.{countIn}
 use Rattle.blocks.specs.declared.Shape.{Shape}
 use Rattle.blocks.specs.declared.count.Count.the-variants.{Records}
-use Rattle.blocks.proofs.ShapeLaws.{file-has}
+use Rattle.blocks.proofs.ShapeLaws.{block-there}
 use Rattle.table.specs.Records.{Position, held, placesFrom, recordsIn}
 use Rattle.table.specs.Keys.{keyAt}
 use Rattle.table.specs.Steps.{GoodChain}
 use Rattle.table.proofs.GoodChainLaws.{good-some}
-use Rattle.index.specs.Entries.{entriesIn, entryKey, entryBlock}
-use Rattle.pair.specs.Tree.{Entry, entryAt, keyRight, fits, joined, leaves, firstKeys, sameEntries}
+use Rattle.table.proofs.RecordLaws.{records-append}
+use Rattle.index.specs.Entries.{entriesIn, entryKey}
+use Rattle.pair.specs.Tree.{Entry, entryAt, keyRight, fits, joined, leaves, firstEntry, firstKeys}
+use Rattle.pair.proofs.FitLaws.{key-gives, fitting, under, entry-fits, block-fits}
 use Rattle.pair.proofs.RunLaws.{All, all-append, Starts, starts-append}
 
--- entries that pass the test are the same
-pub same-entries : (ds es : List Entry) → sameEntries ds es ≡ true → ds ≡ es
-unfolding sameEntries
-same-entries [] [] h = refl
-same-entries [] (e ∷ es) h = absurd (false≢true h)
-same-entries (d ∷ ds) [] h = absurd (false≢true h)
-same-entries (d ∷ ds) (e ∷ es) h =
-    let p = both {a = eqb (d .block) (e .block) && isSame (order (d .key) (e .key))} {b = sameEntries ds es} h in
-    let q = both {a = eqb (d .block) (e .block)} {b = isSame (order (d .key) (e .key))} (p .0) in
-    let b : d .block ≡ e .block = eqb-true (d .block) (e .block) (q .0) in
-    let k : d .key ≡ e .key = order-same (d .key) (e .key) (is-same (order (d .key) (e .key)) (q .1)) in
-    let r : ds ≡ es = same-entries ds es (p .1) in
-    let s : d ≡ e = λ i. record { key = k i; block = b i } in
-    cc
-
--- ---- an index block that fits, over keys of n bytes
-
-module _ (x : List ℕ) (g : Shape) (n : ℕ) where
-  -- the level 1 entries that entry i of index block b leads to, where its block is at a level
-  abbrev pub under : ℕ → ℕ → ℕ → List Entry
-  under level b i = leaves x g n level (entryAt x g n b i)
-
-  -- it fits
-  abbrev pub fitting : ℕ → ℕ → ℕ → Bool
-  fitting level b i = fits x g n level (entryBlock x g n b i) && keyRight x g n level (entryAt x g n b i)
-
-  pub entry-fits : (level b i : ℕ) → fitting level b i ≡ true → (fits x g n level (entryBlock x g n b i) ≡ true) × (keyRight x g n level (entryAt x g n b i) ≡ true)
-  entry-fits level b i f = both {a = fits x g n level (entryBlock x g n b i)} {b = keyRight x g n level (entryAt x g n b i)} f
-
-  -- the block has entries, and each of them fits
-  pub block-fits : (level b : ℕ) → fits x g n (suc level) b ≡ true → (eqb (entriesIn x g b) 0 ≡ false) × (each (fitting level b) (entriesIn x g b) ≡ true)
-  unfolding fits
-  block-fits level b f =
-      let p = both {a = not (eqb (entriesIn x g b) 0)} {b = each (fitting level b) (entriesIn x g b)} f in
-      (not-true (eqb (entriesIn x g b) 0) (p .0), p .1)
-
-  -- the last of the first entries, and those before it
-  pub each-last : (level b i : ℕ) → each (fitting level b) (suc i) ≡ true → (each (fitting level b) i ≡ true) × (fitting level b i ≡ true)
-  unfolding each
-  each-last level b i f = both {a = each (fitting level b) i} {b = fitting level b i} f
-
-  -- an entry above level 1 has the first key of its block
-  key-right : (level : ℕ) (e : Entry) → keyRight x g n (suc level) e ≡ true → e .key ≡ entryKey x g n (e .block) 0
-  unfolding keyRight
-  key-right level e r = order-same (e .key) (entryKey x g n (e .block) 0) (is-same (order (e .key) (entryKey x g n (e .block) 0)) r)
-
--- ---- the table below them
+-- ---- the table below an index block
 
 module _ (t : List ℕ) (g : Shape) where
-  -- the records of some blocks and of others behind them
-  records-append : (bs cs : List ℕ) → recordsIn t g (bs ++ cs) ≡ recordsIn t g bs ++ recordsIn t g cs
-  unfolding recordsIn
-  records-append [] cs = refl
-  records-append (b ∷ bs) cs = rw (records-append bs cs) (sym (append-assoc (placesFrom b 0 (held (countIn t g b))) (recordsIn t g bs) (recordsIn t g cs)))
-
   -- the records of the blocks that some entries name
   abbrev pub recordsUnder : List Entry → List Position
   recordsUnder es = recordsIn t g (map (λ (e : Entry). e .block) es)
 
   pub under-append : (ds es : List Entry) → recordsUnder (ds ++ es) ≡ recordsUnder ds ++ recordsUnder es
-  under-append ds es = ap (recordsIn t g) (map-append (λ (e : Entry). e .block) ds es) ∙ records-append (map (λ (e : Entry). e .block) ds) (map (λ (e : Entry). e .block) es)
+  under-append ds es = ap (recordsIn t g) (map-append (λ (e : Entry). e .block) ds es) ∙ records-append t g (map (λ (e : Entry). e .block) ds) (map (λ (e : Entry). e .block) es)
 
   module _ (n : ℕ) where
     -- a level 1 entry as it is to be: it names a block of the table with a good count that holds records, and has its first key
@@ -100,18 +47,18 @@ module _ (t : List ℕ) (g : Shape) where
     under-first (b ∷ bs) = go (held (countIn t g b)) refl (under-first bs)
       where
         go : (m : ℕ) → held (countIn t g b) ≡ m → recordsUnder (firstKeys t g n bs) ≡ recordsIn t g bs
-            → recordsUnder (cond (eqb m 0) (firstKeys t g n bs) (record { key = keyAt t g n (record { block = b; place = 0 }); block = b } ∷ firstKeys t g n bs)) ≡ placesFrom b 0 m ++ recordsIn t g bs
+            → recordsUnder (cond (eqb m 0) (firstKeys t g n bs) (firstEntry t g n b ∷ firstKeys t g n bs)) ≡ placesFrom b 0 m ++ recordsIn t g bs
         go zero e ih = ih
         go (suc m) e ih = rw (eqb·suc-zero, e) (ap (λ (ps : List Position). placesFrom b 0 (suc m) ++ ps) ih)
 
     -- over a good chain each of them is so
     pub first-leaves : (b : ℕ) (bs : List ℕ) → GoodChain t g b bs → All Leaf (firstKeys t g n bs)
-    unfolding firstKeys hasBlock held
+    unfolding firstKeys held
     first-leaves b [] c = tt
-    first-leaves b (x ∷ bs) c = let w = good-some t g b x bs c .1 in go (w .count) (w .counted) (file-has (g .blocks) x (w .low) (w .high)) (first-leaves _ bs (w .onward))
+    first-leaves b (x ∷ bs) c = let w = good-some t g b x bs c .1 in go (w .count) (w .counted) (block-there g x (w .low) (w .high)) (first-leaves _ bs (w .onward))
       where
         go : (m : ℕ) → countIn t g x ≡ Records m → hasBlock g x ≡ true → All Leaf (firstKeys t g n bs)
-            → All Leaf (cond (eqb (held (countIn t g x)) 0) (firstKeys t g n bs) (record { key = keyAt t g n (record { block = x; place = 0 }); block = x } ∷ firstKeys t g n bs))
+            → All Leaf (cond (eqb (held (countIn t g x)) 0) (firstKeys t g n bs) (firstEntry t g n x ∷ firstKeys t g n bs))
         go zero e i ih = rw e ih
         go (suc m) e i ih = rw (e, eqb·suc-zero) (record { here = i; others = m; counted = e; first-key = refl }, ih)
 
@@ -130,11 +77,11 @@ module _ (t : List ℕ) (g : Shape) where
         -- the first record below them has the key of entry 0
         starts-joined : (i : ℕ) → each (fitting x gx n level b) (suc i) ≡ true → All Leaf (joins (suc i)) → Starts t g n (recordsUnder (joins (suc i))) (entryKey x gx n b 0)
         unfolding joined
-        starts-joined zero f h = let p = entry-fits x gx n level b 0 (each-last x gx n level b 0 f .1) in ih (entryAt x gx n b 0) (p .0) (p .1) h
+        starts-joined zero f h = let p = entry-fits x gx n level b 0 (each-last (fitting x gx n level b) 0 f .1) in ih (entryAt x gx n b 0) (p .0) (p .1) h
         starts-joined (suc i) f h =
             rw (under-append (joins (suc i)) (under x gx n level b (suc i)))
             (starts-append t g n (recordsUnder (joins (suc i))) (recordsUnder (under x gx n level b (suc i))) (entryKey x gx n b 0)
-            (starts-joined i (each-last x gx n level b (suc i) f .0) (all-append Leaf (joins (suc i)) (under x gx n level b (suc i)) h .0)))
+            (starts-joined i (each-last (fitting x gx n level b) (suc i) f .0) (all-append Leaf (joins (suc i)) (under x gx n level b (suc i)) h .0)))
 
       -- so it is at every level
       pub leaves-start : (level : ℕ) (e : Entry) → StartsAt level e
@@ -145,4 +92,4 @@ module _ (t : List ℕ) (g : Shape) where
           go : (m : ℕ) → ((d : Entry) → StartsAt level d) → eqb m 0 ≡ false → each (fitting x gx n level (e .block)) m ≡ true
               → All Leaf (joined (under x gx n level (e .block)) m) → Starts t g n (recordsUnder (joined (under x gx n level (e .block)) m)) (e .key)
           go zero ih z s a = absurd (false≢true (sym z))
-          go (suc m) ih z s a = rw (key-right x gx n level e r) (starts-joined level (e .block) ih m s a)
+          go (suc m) ih z s a = rw (key-gives x gx n (suc level) e r) (starts-joined level (e .block) ih m s a)

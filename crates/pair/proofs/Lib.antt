@@ -1,4 +1,5 @@
 pub mod PairLaws
+pub mod FitLaws
 pub mod TreeRuleLaws
 pub mod RuleLaws
 pub mod RunLaws

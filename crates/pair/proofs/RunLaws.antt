@@ -1,4 +1,4 @@
--- Records whose keys ascend. Of two runs of them, one behind the other, the second one's first key tells which of the two can hold a
+-- Records whose keys ascend. Of two runs of them, one after the other, the second one's first key tells which of the two can hold a
 -- key: the second where that first key is at most the one sought, else the first. Assumes nothing.
 use Prim.Native.Nat.{ℕ, suc, _<_, suc-le-suc}
 use mathlib.Core.Path.{_≡_, refl, sym, ap, _∙_}
@@ -8,7 +8,7 @@ use native.Mathlib.Omega.{arith}
 use lib.ListN.{length, getD}
 use Rattle.words.specs.Order.{isAtMost, order}
 use Rattle.words.specs.declared.Order.the-variants.{Less}
-use Rattle.words.proofs.OrderLaws.{less≢same, is-same, at-most, order-refl, order-same, turned, order-turned, above-less, less-trans}
+use Rattle.words.proofs.OrderLaws.{less≢same, at-most, order-refl, same-gives, turned, order-turned, above-less, less-trans}
 use Rattle.blocks.specs.declared.Shape.{Shape}
 use Rattle.table.specs.Records.{Position}
 use Rattle.table.specs.Keys.{keyAt}
@@ -86,7 +86,7 @@ module _ (t : List ℕ) (g : Shape) (key : List ℕ) where
   not-sought p other = go (isSought t g key p) refl
     where
       go : (b : Bool) → isSought t g key p ≡ b → isSought t g key p ≡ false
-      go true e = absurd (other (order-same (keyAt t g (length key) p) key (is-same (order (keyAt t g (length key) p) key) e)))
+      go true e = absurd (other (same-gives (keyAt t g (length key) p) key e))
       go false e = e
 
   -- where every record has another key, the key is absent
@@ -125,7 +125,7 @@ module _ (t : List ℕ) (g : Shape) (key : List ℕ) where
 
     -- the first run decides before it
     pub first-run : isAtMost (order f key) ≡ false → firstWith t g key (us ++ vs) ≡ firstWith t g key us
-    first-run m = rest-absent us vs (ap (firstWith t g key) (starts .split) ∙ others-absent (p ∷ starts .rest) (later-other (keyAt t g (length key) p) least, all-map (Before t g (length key) p) Other (starts .rest) other behind))
+    first-run m = rest-absent us vs (ap (firstWith t g key) (starts .split) ∙ others-absent (p ∷ starts .rest) (later-other (keyAt t g (length key) p) least, all-map (Before t g (length key) p) Other (starts .rest) other after))
       where
         least : order key (keyAt t g (length key) p) ≡ Less
         least = above-less (keyAt t g (length key) p) key (rw (starts .key) m)
@@ -133,5 +133,5 @@ module _ (t : List ℕ) (g : Shape) (key : List ℕ) where
         other : (a : Position) → Before t g (length key) p a → Other a
         other a l = later-other (keyAt t g (length key) a) (less-trans key (keyAt t g (length key) p) (keyAt t g (length key) a) least l)
 
-        behind : All (Before t g (length key) p) (starts .rest)
-        behind = (rw (starts .split) at (ascends-append t g (length key) us vs ascends .1)) .0
+        after : All (Before t g (length key) p) (starts .rest)
+        after = (rw (starts .split) at (ascends-append t g (length key) us vs ascends .1)) .0

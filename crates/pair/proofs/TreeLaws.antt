@@ -1,17 +1,15 @@
 -- The rule of a tree by what going down it comes to: root 0 by the number of records, any other root by where the used chain is then.
 -- Assumes nothing.
 use Prim.Native.Nat.{ℕ}
-use mathlib.Core.Path.{_≡_, refl, sym, ap, _∙_}
-use mathlib.Core.Bool.{Bool, false, cond}
+use mathlib.Core.Path.{_≡_, sym, _∙_}
+use mathlib.Core.Bool.{false}
 use mathlib.Core.List.{List}
-use native.Mathlib.Omega.{arith}
 use lib.Dec.{eqb}
 use borrow.Author.Tests.{eq-eqb, ne-eqb}
 use Rattle.header.specs.declared.Header.{Header}
 use Rattle.blocks.specs.Shape.{shapeOf}
 use Rattle.blocks.specs.declared.Shape.{Shape}
 use Rattle.blocks.proofs.ShapeLaws.{sound}
-use Rattle.table.specs.Steps.{GoodChain}
 use Rattle.table.proofs.GoodChainLaws.{good-begins}
 use Rattle.index.specs.declared.IndexHeader.{IndexHeader}
 use Rattle.pair.specs.Pair.{emptyFits, rootFits, treeFits}
@@ -19,7 +17,6 @@ use Rattle.pair.specs.Steps.{holdingFrom, blockFrom, Followed, Descendab
 use Rattle.pair.specs.declared.tree.Fit.{Fit}
 use Rattle.pair.specs.declared.tree.Fit.the-variants.{Next, Unfit}
 use Rattle.pair.specs.declared.tree.Shapes.{Shapes}
-use Rattle.pair.proofs.HoldingLaws.{blocksFrom}
 use Rattle.pair.proofs.FollowLaws.{isEnd, block-good, tree-ends}
 
 module _ (t : List ℕ) (h : Header) (x : List ℕ) (i : IndexHeader) (p : Paired t h x i) where

@@ -15,7 +15,7 @@ use Rattle.scan.specs.Scan.{scanOf}
 use Rattle.index.specs.Header.{indexOf}
 use Rattle.index.specs.Walk.{walkOf}
 use Rattle.index.specs.declared.IndexHeader.{IndexHeader}
-use Rattle.pair.specs.declared.Lookups.{Lookups}
+use Rattle.pair.specs.declared.LookedUp.{LookedUp}
 use Rattle.pair.specs.Tree.{fits, treeLeaves, firstKeys, sameEntries}
 
 -- root 0 fits exactly when there are no records
@@ -50,5 +50,5 @@ abbrev pub pairMarks : List ℕ → List ℕ → List ℕ
 pairMarks t m = tableMarks t m
 
 -- what checking a pair and looking a key up both ways answers
-unfoldable pub lookupsOf : List ℕ → List ℕ → List ℕ → ℕ → Lookups
-lookupsOf t x key room = record { pair = pairAnswer t x room; walk = walkOf t x key; scan = scanOf t key room }
+unfoldable pub lookedUpOf : List ℕ → List ℕ → List ℕ → ℕ → LookedUp
+lookedUpOf t x key room = record { pair = pairAnswer t x room; walk = walkOf t x key; scan = scanOf t key room }

@@ -19,7 +19,7 @@ use Rattle.index.specs.Entries.{entryKey}
 use Rattle.index.specs.Rules.{IndexRules}
 use Rattle.index.specs.Walk.{numbersOf}
 use Rattle.index.specs.declared.IndexHeader.{IndexHeader}
-use Rattle.pair.specs.declared.Lookups.{Lookups}
+use Rattle.pair.specs.declared.LookedUp.{LookedUp}
 use Rattle.pair.specs.Tree.{Entry, entryAt, treeLeaves, firstKeys}
 
 -- ---- 27: the tree fits
@@ -64,16 +64,16 @@ pub record PairRules (t x : List ℕ) : Type 0 where
 
 -- ---- demand 3
 
--- what a walk and a scan for a key come to, by their numbers: they are the same, so that neither refuses; absent exactly when no record
--- has the key, found exactly when one has it, and then it is that record
-pub record Agreement (t key : List ℕ) (walked scanned : Lookup) : Type 0 where
+-- what a walk and a scan for a key come to, by their numbers: they are the same, and neither refuses; absent exactly when no record has
+-- the key, found exactly when one has it, and then it is that record
+pub record Agreement (t : List ℕ) (h : Header) (key : List ℕ) (walked scanned : Lookup) : Type 0 where
   pub same : walked ≡ scanned
   pub accepted : scanned .refusal ≡ 0
-  pub absent-gives : scanned .found ≡ 0 → (p : Position) → HasKey t (headerOf t) key p → ⊥
-  pub absent-takes : ((p : Position) → HasKey t (headerOf t) key p → ⊥) → scanned .found ≡ 0
-  pub found-gives : scanned .found ≡ 1 → HasKey t (headerOf t) key (record { block = scanned .block; place = scanned .place })
-  pub found-takes : (p : Position) → HasKey t (headerOf t) key p → (scanned .found ≡ 1) × (scanned .block ≡ p .block) × (scanned .place ≡ p .place)
+  pub absent-gives : scanned .found ≡ 0 → (p : Position) → HasKey t h key p → ⊥
+  pub absent-takes : ((p : Position) → HasKey t h key p → ⊥) → scanned .found ≡ 0
+  pub found-gives : scanned .found ≡ 1 → HasKey t h key (record { block = scanned .block; place = scanned .place })
+  pub found-takes : (p : Position) → HasKey t h key p → (scanned .found ≡ 1) × (scanned .block ≡ p .block) × (scanned .place ≡ p .place)
 
 -- the same of both lookups' answers: where the pair is accepted and the key has the table's key length, they agree
-abbrev pub Agreeing : List ℕ → List ℕ → Lookups → Type 0
-Agreeing t key r = r .pair ≡ 0 → length key ≡ headerOf t .key → Agreement t key (numbersOf (r .walk) .0) (lookupOf (r .scan))
+abbrev pub Agreeing : List ℕ → List ℕ → LookedUp → Type 0
+Agreeing t key r = r .pair ≡ 0 → length key ≡ headerOf t .key → Agreement t (headerOf t) key (numbersOf (r .walk) .0) (lookupOf (r .scan))

@@ -11,13 +11,12 @@ use Rattle.blocks.specs.declared.Shape.{Shape}
 use Rattle.chain.specs.Chain.{chainFrom}
 use Rattle.chain.specs.Links.{nextOf}
 use Rattle.table.specs.Records.{held}
-use Rattle.table.specs.Keys.{keyAt}
 use Rattle.table.specs.Rules.{AcceptedTable}
 use Rattle.table.specs.Steps.{GoodChain}
 use Rattle.index.specs.Rules.{AcceptedIndex}
-use Rattle.index.specs.Steps.{Entries}
+use Rattle.index.specs.Steps.{EntriesInside}
 use Rattle.index.specs.declared.IndexHeader.{IndexHeader}
-use Rattle.pair.specs.Tree.{Entry, keyRight, fits, leaves}
+use Rattle.pair.specs.Tree.{Entry, keyRight, fits, leaves, treeLeaves, firstEntry}
 use Rattle.pair.specs.declared.tree.Fit.{Fit}
 use Rattle.pair.specs.declared.tree.Fit.the-variants.{Next, Unfit}
 use Rattle.pair.specs.declared.tree.Shapes.{Shapes}
@@ -38,7 +37,7 @@ unfoldable pub isExpected : List ℕ → Shape → ℕ → Entry → ℕ → Boo
 isExpected t g n e c =
     not (eqb (holdingFrom t g c) 0)
     && eqb (e .block) (holdingFrom t g c)
-    && isSame (order (e .key) (keyAt t g n (record { block = holdingFrom t g c; place = 0 })))
+    && isSame (order (e .key) (firstEntry t g n (holdingFrom t g c) .key))
 
 -- level 1 entries that are expected one after another: where the chain is after them
 unfoldable pub follow : List ℕ → Shape → ℕ → List Entry → ℕ → Fit
@@ -63,7 +62,7 @@ module _ (t x : List ℕ) (s : Shapes) where
   unfoldable pub blockFrom : ℕ → ℕ → ℕ → Fit
   blockFrom level b c =
       cond (fits x (s .index) (s .key) level b)
-      (follow t (s .table) (s .key) (leaves x (s .index) (s .key) level (record { key = []; block = b })) c) Unfit
+      (follow t (s .table) (s .key) (treeLeaves x (s .index) (s .key) level b) c) Unfit
 
   -- a level 1 entry, whose key stands at an offset and which names a block
   abbrev pub leafFrom : ℕ → ℕ → ℕ → Fit
@@ -73,7 +72,7 @@ module _ (t x : List ℕ) (s : Shapes) where
   pub record Descendable (c : ℕ) : Type 0 where
     pub followed : Followed t (s .table) c
     pub short : s .key ≤ s .table .size
-    pub entries : Entries x (s .index) (s .key)
+    pub entries : EntriesInside x (s .index) (s .key)
 
 -- what judging a tree asks: an accepted table with key fields, and an accepted index to it
 pub record Paired (t : List ℕ) (h : Header) (x : List ℕ) (i : IndexHeader) : Type 0 where

@@ -52,12 +52,15 @@ leaves x g n (suc level) e = joined (λ (i : ℕ). leaves x g n level (entryAt x
 abbrev pub treeLeaves : List ℕ → Shape → ℕ → ℕ → ℕ → List Entry
 treeLeaves x g n levels root = leaves x g n levels (record { key = []; block = root })
 
+-- a data block with its first key
+abbrev pub firstEntry : List ℕ → Shape → ℕ → ℕ → Entry
+firstEntry t g n b = record { key = keyAt t g n (record { block = b; place = 0 }); block = b }
+
 -- what they are to be: of some blocks of a table those that hold records, in order, each with its first key
 unfoldable pub firstKeys : List ℕ → Shape → ℕ → List ℕ → List Entry
 firstKeys t g n [] = []
 firstKeys t g n (b ∷ bs) =
-    cond (eqb (held (countIn t g b)) 0) (firstKeys t g n bs)
-    (record { key = keyAt t g n (record { block = b; place = 0 }); block = b } ∷ firstKeys t g n bs)
+    cond (eqb (held (countIn t g b)) 0) (firstKeys t g n bs) (firstEntry t g n b ∷ firstKeys t g n bs)
 
 -- two lists of entries are the same
 unfoldable pub sameEntries : List Entry → List Entry → Bool

@@ -3,7 +3,7 @@ mod tree;
 
 ghost use mathlib.Core.Path.{_≡_};
 ghost use lib.ListN.{length};
-ghost use Rattle.pair.specs.Pair.{lookupsOf, pairAnswer, pairMarks, treeFits};
+ghost use Rattle.pair.specs.Pair.{lookedUpOf, pairAnswer, pairMarks, treeFits};
 ghost use Rattle.pair.specs.Rules.{Agreeing};
 ghost use Rattle.pair.specs.Steps.{Paired};
 use header::Header;
@@ -16,7 +16,7 @@ use tree::Fit;
 use tree::Shapes;
 
 // What a table, its index and a key come to: the pair check's answer, and the key looked up both ways.
-pub struct Lookups {
+pub struct LookedUp {
     pub pair: u8,
     pub walk: Walked,
     pub scan: Found,
@@ -73,11 +73,11 @@ fn tree_fits(table: &[u8], h: Header, index: &[u8], i: IndexHeader) -> bool
 
 // Checks a pair and looks a key up both ways. Where the pair is accepted and the key has the table's key length, the
 // two ways agree, whatever the bytes are. The mark buffer holds what the table check leaves in it.
-pub fn look_up(table: &[u8], index: &[u8], key: &[u8], marks: &mut [u8]) -> Lookups
-    ensures { λ r. ⌜ (r ≡ lookupsOf (now (table .entry)) (now (index .entry)) (now (key .entry)) (length (now (marks .entry)))) × (now (marks .exit) ≡ pairMarks (now (table .entry)) (now (marks .entry))) × Agreeing (now (table .entry)) (now (key .entry)) r ⌝ }
+pub fn look_up(table: &[u8], index: &[u8], key: &[u8], marks: &mut [u8]) -> LookedUp
+    ensures { λ r. ⌜ (r ≡ lookedUpOf (now (table .entry)) (now (index .entry)) (now (key .entry)) (length (now (marks .entry)))) × (now (marks .exit) ≡ pairMarks (now (table .entry)) (now (marks .entry))) × Agreeing (now (table .entry)) (now (key .entry)) r ⌝ }
 {
     let pair = check(table, index, marks);
     let walk = index::walk(table, index, key);
     let scan = scan::find(table, key, marks);
-    Lookups { pair, walk, scan }
+    LookedUp { pair, walk, scan }
 }

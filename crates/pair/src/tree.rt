@@ -1,5 +1,5 @@
 // The tree of an index against the used chain of its table. It is read once, left to right, and given up at the first
-// level 1 entry that does not name the next block that holds records.
+// fault: a block or entry that does not fit, or a level 1 entry that is not the next one expected.
 // The module is private: its functions are helpers of the pair check, which meets what they require.
 ghost use mathlib.Core.Path.{_≡_};
 ghost use Prim.Native.Nat.{_+_, _<_, _≤_};
@@ -43,7 +43,7 @@ pub fn first_holding(table: &[u8], shape: Shape, from: usize) -> usize
     0
 }
 
-// A level 1 entry at a place of the index, which names a data block.
+// A level 1 entry at an offset of the index, which names a data block.
 fn leaf_fits(
     table: &[u8],
     index: &[u8],
@@ -85,16 +85,16 @@ pub fn block_fits(
     if count == 0 {
         return Fit::Unfit;
     }
-    let mut at = from;
+    let mut reached = from;
     let mut i: u16 = 0;
     while i < count {
-        let Fit::Next(next) = entry_fits(table, index, shapes, level - 1, block, i, at) else {
+        let Fit::Next(next) = entry_fits(table, index, shapes, level - 1, block, i, reached) else {
             return Fit::Unfit;
         };
-        at = next;
+        reached = next;
         i += 1;
     }
-    Fit::Next(at)
+    Fit::Next(reached)
 }
 
 // An entry of an index block, whose own block is at a level: that block fits, and above level 1 the entry has the key

@@ -61,7 +61,8 @@ module _ (t : List ℕ) (g : Shape) (key : List ℕ) where
 
 -- ---- a refused scan has a number, so absent is told from it by the numbers too
 
-first-answers : (t : List ℕ) (g : Shape) (key : List ℕ) (ps : List Position) (n : ℕ) → firstWith t g key ps ≡ Refused n → ⊥
+-- the first record with a key is one or is absent
+pub first-answers : (t : List ℕ) (g : Shape) (key : List ℕ) (ps : List Position) (n : ℕ) → firstWith t g key ps ≡ Refused n → ⊥
 first-answers t g key ps n e = go (looked t g key ps)
   where
     go : Looked t g key ps (firstWith t g key ps) → ⊥

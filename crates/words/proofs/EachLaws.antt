@@ -14,12 +14,17 @@ module _ (test : ℕ → Bool) where
   unfolding each
   each-more n h k = rw add-one (and-eq-true-iff (each test n) (test n) .1 (h, k))
 
+  -- the last index, and those before it
+  pub each-last : (n : ℕ) → each test (suc n) ≡ true → (each test n ≡ true) × (test n ≡ true)
+  unfolding each
+  each-last n h = and-eq-true-iff (each test n) (test n) .0 h
+
   -- the test of every index below n is the test of each of them
   pub each-gives : (n : ℕ) → each test n ≡ true → (i : ℕ) → i < n → test i ≡ true
   unfolding each
   each-gives zero h i l = absurd (not-suc-le-zero l)
   each-gives (suc n) h i l =
-      let p = and-eq-true-iff (each test n) (test n) .0 h in
+      let p = each-last n h in
       ⊎-elim (λ e. ap test e ∙ p .1) (λ m. each-gives n (p .0) i m) (eq-or-lt-of-le {n = i} {m = n} (omega arith))
 
   pub each-takes : (n : ℕ) → ((i : ℕ) → i < n → test i ≡ true) → each test n ≡ true

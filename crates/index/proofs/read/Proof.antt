@@ -8,7 +8,6 @@ use borrow.Author.Tests.{not-true, not-false, le-leb, lt-leb}
 use Rattle.header.specs.Header.{knownVersion, lengthRight}
 use Rattle.index.specs.Stored.{storedOf}
 use Rattle.index.specs.Header.{longEnough, isIndex, limitsKept}
-use Rattle.index.specs.declared.stored.Stored.{Stored}
 use Rattle.index.proofs.RuleLaws.{limits-give}
 use Rattle.index.proofs.HeaderLaws.{broken-21, broken-22, broken-23, broken-25, broken-26, all-kept}
 use borrow.Author.Needs.{needs}
@@ -18,7 +17,7 @@ use Rattle.index.proofs.read.Tie as tie
 -- ---- what each test says of the bytes
 
 abbrev X : tie.After-read-stored → List ℕ
-X r = r .before .before .before .args .x .now
+X r = r .before .before .before .args .index .now
 
 abbrev N : tie.After-read-stored → ℕ
 N r = r .before .before .before .args .key
@@ -57,7 +56,7 @@ returns : tie.Need-returns
 unfolding longEnough
 returns c =
     let v = c .before .before .before .args in
-    c .refused .ensures ∙ sym (broken-21 (v .x .now) (v .key) (lt-leb 88 (length (v .x .now)) (c .before .if1 .taken)))
+    c .refused .ensures ∙ sym (broken-21 (v .index .now) (v .key) (lt-leb 88 (length (v .index .now)) (c .before .if1 .taken)))
 
 read-stored-requires : tie.Need-read-stored-requires
 read-stored-requires c κs = search needs

@@ -1,6 +1,5 @@
 -- `check` meets its contract: the table check, 13, 21 to 26, then the tree. Assumes nothing.
 use mathlib.Core.Path.{_≡_, sym, ap, _∙_}
-use mathlib.Core.Bool.{Bool}
 use mathlib.Core.List.{List}
 use Prim.Native.Nat.{ℕ, _≤_}
 use native.Mathlib.Nat.{pos-of-ne-zero}
@@ -16,7 +15,6 @@ use Rattle.index.specs.Header.{indexOf}
 use Rattle.index.specs.declared.IndexHeader.{IndexHeader}
 use Rattle.index.proofs.AcceptedLaws.{accepted-index}
 use Rattle.pair.specs.Pair.{treeFits}
-use Rattle.pair.specs.Steps.{Paired}
 use Rattle.pair.proofs.PairLaws.{pair-table, pair-unkeyed, pair-index, pair-unfit, pair-fits}
 use borrow.Author.Needs.{needs}
 use Rattle.pair.proofs.check.Statement.{statement}

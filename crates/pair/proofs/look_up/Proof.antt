@@ -1,7 +1,4 @@
 -- `look_up` meets its contract: three calls on the same bytes, and demand 3 of what they answer. Assumes nothing.
-use mathlib.Core.Path.{_≡_}
-use Prim.Native.Nat.{ℕ}
-use lib.ListN.{length}
 use Rattle.pair.proofs.Demand.{looked-up}
 use borrow.Author.Needs.{needs}
 use Rattle.pair.proofs.look_up.Statement.{statement}

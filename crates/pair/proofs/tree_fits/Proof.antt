@@ -7,8 +7,7 @@ use Rattle.header.specs.declared.Header.{Header}
 use Rattle.blocks.specs.Shape.{shapeOf}
 use Rattle.blocks.specs.declared.Shape.{Shape}
 use Rattle.index.specs.declared.IndexHeader.{IndexHeader}
-use Rattle.pair.specs.Steps.{Paired, blockFrom}
-use Rattle.pair.specs.declared.tree.Fit.the-variants.{Next}
+use Rattle.pair.specs.Steps.{Paired}
 use Rattle.pair.proofs.TreeLaws.{tree-empty, descendable, tree-unfit, tree-next, next-followed}
 use borrow.Author.Needs.{needs}
 use Rattle.pair.proofs.tree_fits.Statement.{statement}

@@ -1,6 +1,7 @@
 -- `block_named` meets its contract: the top bit of a number of two bytes is complemented. Assumes nothing.
-use mathlib.Core.Path.{_≡_, sym, _∙_}
+use mathlib.Core.Path.{sym}
 use native.Mathlib.Omega.{arith}
+use Rattle.index.specs.Entries.{blockNumber}
 use Rattle.words.proofs.NumberLaws.{big-lt}
 use Rattle.words.proofs.SignedLaws.{complemented-from, complemented-below}
 use borrow.Author.Needs.{needs}
@@ -16,6 +17,7 @@ cast-result c =
     omega (arith, c .before .number .ensures, big-lt (v .x .now) (v .at) 2 (λ i. omega (arith, c .before .before .shared-slice-known .given i)))
 
 returns : tie.Need-returns
+unfolding blockNumber
 returns c = sym (rw (← (c .before .number .ensures)) (complemented-from 32768 (c .before .number .result) (c .if1 .taken)))
 
 add-result : tie.Need-add-result
@@ -25,6 +27,7 @@ cast-result-2 : tie.Need-cast-result-2
 cast-result-2 c = search needs
 
 returns-2 : tie.Need-returns-2
+unfolding blockNumber
 returns-2 c = sym (rw (← (c .before .number .ensures)) (complemented-below 32768 (c .before .number .result) (c .if1 .left)))
 
 pub block-named-spec : {M : Type 1} → statement M

@@ -1,10 +1,10 @@
 -- `descend` meets its contract: a block without entries is refused, else the key leads on or not. Assumes nothing.
-use mathlib.Core.Path.{_≡_, sym, ap, subst, _∙_}
+use mathlib.Core.Path.{sym, ap, subst, _∙_}
 use Prim.Native.Nat.{ℕ, _+_, _<_}
 use native.Mathlib.Omega.{arith}
 use lib.ListN.{length}
 use Rattle.table.specs.Steps.{RunInside}
-use Rattle.index.specs.Entries.{entriesIn, below}
+use Rattle.index.specs.Entries.{below}
 use Rattle.index.specs.declared.entries.Descent.{Descent}
 use Rattle.index.specs.declared.entries.Descent.the-variants.{Read}
 use Rattle.index.proofs.EntryLaws.{entries-inside, descent-refused, descent-read}

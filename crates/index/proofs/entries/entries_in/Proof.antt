@@ -1,6 +1,6 @@
 -- `entries_in` meets its contract: outside the file and with a bad count there are none. Assumes nothing.
 use mathlib.Core.Path.{_≡_, sym, _∙_}
-use mathlib.Core.Bool.{true, false}
+use mathlib.Core.Bool.{true}
 use borrow.Author.Tests.{not-true, not-false}
 use Rattle.blocks.specs.Shape.{hasBlock}
 use Rattle.blocks.proofs.ShapeLaws.{has-block}

@@ -1,20 +1,16 @@
 -- `walk` meets its contract: 1 to 7, 13, 21 to 26, then the walk from the root. Assumes nothing.
-use mathlib.Core.Path.{_≡_, sym, ap, subst, _∙_}
+use mathlib.Core.Path.{_≡_, sym, ap, _∙_}
 use mathlib.Core.Bool.{true}
 use mathlib.Core.List.{List}
 use Prim.Native.Nat.{ℕ}
-use native.Mathlib.Omega.{arith}
-use lib.ListN.{length}
 use borrow.Author.Tests.{not-true, not-false}
 use Rattle.header.specs.Header.{headerOf}
 use Rattle.header.specs.declared.Header.{Header}
-use Rattle.header.proofs.AcceptedLaws.{accepted}
 use Rattle.blocks.specs.Shape.{shapeOf}
 use Rattle.scan.specs.Scan.{keyFits}
 use Rattle.index.specs.Header.{indexOf}
 use Rattle.index.specs.Walk.{foundAfter, refusedWalk}
 use Rattle.index.specs.declared.IndexHeader.{IndexHeader}
-use Rattle.index.specs.declared.lookup.Walked.{Walked}
 use Rattle.index.proofs.WalkLaws.{walks, table-refused, key-unfit, index-refused, walk-rootless, walk-rooted, walkable, walk-same}
 use borrow.Author.Needs.{needs}
 use Rattle.index.proofs.lookup.walk.Statement.{statement}

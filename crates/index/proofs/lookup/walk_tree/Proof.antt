@@ -2,13 +2,10 @@
 use mathlib.Core.Path.{_≡_, refl, sym, ap, _∙_}
 use mathlib.Core.List.{List}
 use Prim.Native.Nat.{ℕ, _+_, _≤_}
-use native.Mathlib.Omega.{arith}
 use Rattle.blocks.specs.declared.Shape.{Shape}
-use Rattle.index.specs.Steps.{descentOf}
 use Rattle.index.specs.Walk.{foundAfter, walkFrom}
 use Rattle.index.specs.declared.entries.Descent.{Descent}
 use Rattle.index.specs.declared.entries.Descent.the-variants.{Read}
-use Rattle.index.specs.declared.entries.Below.{Below}
 use Rattle.index.proofs.WalkLaws.{walk-refused, walk-absent, walk-down, walk-end}
 use borrow.Author.Needs.{needs}
 use Rattle.index.proofs.lookup.walk_tree.Statement.{statement}

@@ -43,10 +43,10 @@ abbrev μ-entry : Measures 2 entry-kinds.ps ℕ
 μ-entry κs a = a .1 .1 .1 .0 + a .1 .1 .1 .0 + 1
 
 abbrev Inv-loop : block-lts.InvT-loop
-Inv-loop table index shapes level block from count at₀ i₀ at i = (i ≤ count) × (upTo table index shapes (level - 1) block i from ≡ Next at)
+Inv-loop table index shapes level block from count reached₀ i₀ reached i = (i ≤ count) × (upTo table index shapes (level - 1) block i from ≡ Next reached)
 
 abbrev μ-loop : block-lts.MeasureT-loop
-μ-loop table index shapes level block from count at₀ i₀ at i = count - i
+μ-loop table index shapes level block from count reached₀ i₀ reached i = count - i
 
 module _ (t : ℕ) where
   abbrev block-at : In 2 block-kinds.ps
@@ -102,7 +102,7 @@ module _ (t : ℕ) where
       let l = c .before .loop in
       let p = c .before .before .before .before .before .before .pre in (
         omega (arith, p .0, p .1 .1),
-        (descend-on (v .table .now) (v .index .now) (v .shapes) (v .level - 1) (v .block) (l .i) (v .from) (l .at) (p .1 .0) (l .inv .1), omega (arith, c .before .before .before .entries-in .ensures, c .loop-test .taken)),
+        (descend-on (v .table .now) (v .index .now) (v .shapes) (v .level - 1) (v .block) (l .i) (v .from) (l .reached) (p .1 .0) (l .inv .1), omega (arith, c .before .before .before .entries-in .ensures, c .loop-test .taken)),
       )
 
   block-known-next : block-lts.Need-enum-known-next block-calls block-at block-reads.Post Inv-loop μ-loop
@@ -115,7 +115,7 @@ module _ (t : ℕ) where
   block-returns-2 c =
       let v = c .before .before .before .before .before .before .before .before .before .args in
       let l = c .before .before .before .before .loop in
-      sym (block-refused (v .table .now) (v .index .now) (v .shapes) (v .level) (v .block) (v .from) (c .before .before .before .before .before .before .entries-in .result) (c .before .before .before .before .before .before .before .before .before .pre .1 .1) (c .before .before .before .before .before .before .entries-in .ensures) (l .i) (l .at) (c .before .before .before .before .before .if1 .left) (c .before .before .before .loop-test .taken) (l .inv .1) (sym (c .before .before .entry-fits .ensures) ∙ c .enum-told .given .1))
+      sym (block-refused (v .table .now) (v .index .now) (v .shapes) (v .level) (v .block) (v .from) (c .before .before .before .before .before .before .entries-in .result) (c .before .before .before .before .before .before .before .before .before .pre .1 .1) (c .before .before .before .before .before .before .entries-in .ensures) (l .i) (l .reached) (c .before .before .before .before .before .if1 .left) (c .before .before .before .loop-test .taken) (l .inv .1) (sym (c .before .before .entry-fits .ensures) ∙ c .enum-told .given .1))
 
   add-i : block-lts.Need-add-i block-calls block-at block-reads.Post Inv-loop μ-loop
   add-i c = search needs
@@ -127,13 +127,13 @@ module _ (t : ℕ) where
   loop-again c =
       let v = c .before .before .before .before .before .before .before .before .before .before .args in
       let l = c .before .before .before .before .before .loop in
-      (search needs, block-turn (v .table .now) (v .index .now) (v .shapes) (v .level) (v .block) (v .from) (c .before .before .before .before .before .before .before .entries-in .result) (c .before .before .before .before .before .before .before .before .before .before .pre .1 .1) (c .before .before .before .before .before .before .before .entries-in .ensures) (l .i) (l .at) (c .before .next .given .0 .0) (l .inv .1) (sym (c .before .before .before .entry-fits .ensures) ∙ c .before .next .given .1))
+      (search needs, block-turn (v .table .now) (v .index .now) (v .shapes) (v .level) (v .block) (v .from) (c .before .before .before .before .before .before .before .entries-in .result) (c .before .before .before .before .before .before .before .before .before .before .pre .1 .1) (c .before .before .before .before .before .before .before .entries-in .ensures) (l .i) (l .reached) (c .before .next .given .0 .0) (l .inv .1) (sym (c .before .before .before .entry-fits .ensures) ∙ c .before .next .given .1))
 
   block-returns-3 : block-lts.Need-returns-3 block-calls block-at block-reads.Post Inv-loop μ-loop
   block-returns-3 c =
       let v = c .before .before .before .before .before .before .args in
       let l = c .before .loop in
-      sym (block-done (v .table .now) (v .index .now) (v .shapes) (v .level) (v .block) (v .from) (c .before .before .before .entries-in .result) (c .before .before .before .before .before .before .pre .1 .1) (c .before .before .before .entries-in .ensures) (l .i) (l .at) (c .before .before .if1 .left) (l .inv .0) (c .loop-test .left) (l .inv .1))
+      sym (block-done (v .table .now) (v .index .now) (v .shapes) (v .level) (v .block) (v .from) (c .before .before .before .entries-in .result) (c .before .before .before .before .before .before .pre .1 .1) (c .before .before .before .entries-in .ensures) (l .i) (l .reached) (c .before .before .if1 .left) (l .inv .0) (c .loop-test .left) (l .inv .1))
 
   -- ---- an entry
 
