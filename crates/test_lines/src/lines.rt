@@ -1,8 +1,8 @@
 // A line of the cases: a name, a colon, and changes to a buffer that begins with a table. Numbers are hexadecimal.
 // `900=0400` stores two bytes from 900 on, `d06'ant'` stores text, `z` makes the whole buffer zero. `5m` lends only the
-// first 5 marks of 8, `77t` only the first 119 bytes of the table, `1p` has the marks filled with 01 before, otherwise
-// with AA. Any other letter is a command, which the program carries out with the number before it; right behind a
-// change that number is the place behind the last byte stored.
+// first 5 marks, `77t` only the first 119 bytes of the table, `57i` only the first 87 bytes of the index, `1p` has the
+// marks filled with 01 before, otherwise with AA. Any other letter is a command, which the program carries out with the
+// number before it; right behind a change that number is the place behind the last byte stored.
 // A line that begins with `>` has no name: its changes stay for the cases that follow. `#` begins a comment.
 use crate::print::letter;
 
@@ -33,18 +33,19 @@ const TABLE: u8 = 3;
 // The table's bytes, and all bytes that the cases change: behind the table stands what a program has besides.
 pub const TABLE_SIZE: usize = 6400;
 
-pub const SIZE: usize = 8192;
+pub const SIZE: usize = 32768;
 
 pub type Buffer = [u8; SIZE];
 
 // A line as far as it is read. `command` is the letter just read where that is the program's, otherwise 0; `number` is
-// the number or place before it. `marks`, `long` and `fill` say what is lent.
+// the number or place before it. `marks`, `long`, `index` and `fill` say what is lent.
 pub struct Line {
     pub kind: u8,
     pub command: u8,
     pub number: usize,
     pub marks: usize,
     pub long: usize,
+    pub index: usize,
     pub fill: u8,
     mode: u8,
     high: u8,
@@ -57,6 +58,7 @@ pub fn fresh() -> Line {
         number: 0,
         marks: 8,
         long: TABLE_SIZE,
+        index: 0,
         fill: 0xaa,
         mode: START,
         high: 0,
@@ -76,6 +78,11 @@ pub fn noted(line: Line, number: usize) -> Line {
     let mut l = line;
     l.number = number;
     l
+}
+
+// Whether the line's changes stay for the cases that follow.
+pub fn stays(line: Line) -> bool {
+    line.kind == TABLE
 }
 
 // The end of a line. Changes that stay are kept, and the next line starts from them.
@@ -104,7 +111,7 @@ fn digit(b: u8) -> u8 {
 }
 
 // Stores a byte and answers the place behind it. A place outside the buffer is left out.
-fn store(t: &mut Buffer, at: usize, b: u8) -> usize {
+pub fn store(t: &mut Buffer, at: usize, b: u8) -> usize {
     if at < SIZE {
         t[at] = b;
         return at + 1;
@@ -153,6 +160,7 @@ fn number(t: &mut Buffer, line: Line, b: u8) -> Line {
         b'z' => *t = [0u8; SIZE],
         b'm' => l.marks = l.number,
         b't' => l.long = l.number,
+        b'i' => l.index = l.number,
         b'p' => l.fill = (l.number % 256) as u8,
         _ => l.command = b,
     }
@@ -212,4 +220,12 @@ pub fn part(s: &[u8], n: usize) -> &[u8] {
         return &s[..n];
     }
     s
+}
+
+// The bytes from place n on; none where there are fewer.
+pub fn behind(s: &[u8], n: usize) -> &[u8] {
+    if n < s.len() {
+        return &s[n..];
+    }
+    &s[..0]
 }
