@@ -11,7 +11,7 @@ use Rattle.header.specs.declared.Header.{Header}
 use Rattle.table.specs.Table.{tableAnswer}
 use Rattle.index.specs.Header.{indexOf}
 use Rattle.index.specs.declared.IndexHeader.{IndexHeader}
-use Rattle.pair.specs.Pair.{treeFits, indexFits, keyedAnswer, pairAnswer}
+use Rattle.pair.specs.Pair.{treeFits, treeAnswer, keyedAnswer, pairAnswer}
 
 -- a number that is the answer where it is not 0, is 0 where the answer is
 refusal-first : (n answer : ℕ) → ((n ≡ 0 → ⊥) → answer ≡ n) → answer ≡ 0 → n ≡ 0
@@ -45,18 +45,18 @@ module _ (t x : List ℕ) (room : ℕ) where
     module _ (keyed : 1 ≤ h .keys) where
       -- 21 to 26
       pub pair-index : (i .refusal ≡ 0 → ⊥) → pairAnswer t x room ≡ i .refusal
-      unfolding pairAnswer keyedAnswer indexFits
+      unfolding pairAnswer keyedAnswer treeAnswer
       pair-index ne = rw (eq-eqb (tableAnswer t room) 0 accepted, le-leb 1 (h .keys) keyed, ne-eqb (i .refusal) 0 ne)
 
       module _ (indexed : i .refusal ≡ 0) where
         -- 27
         pub pair-unfit : treeFits t h x i ≡ false → pairAnswer t x room ≡ 27
-        unfolding pairAnswer keyedAnswer indexFits
+        unfolding pairAnswer keyedAnswer treeAnswer
         pair-unfit f = rw (eq-eqb (tableAnswer t room) 0 accepted, le-leb 1 (h .keys) keyed, eq-eqb (i .refusal) 0 indexed, f)
 
         -- accepted
         pub pair-fits : treeFits t h x i ≡ true → pairAnswer t x room ≡ 0
-        unfolding pairAnswer keyedAnswer indexFits
+        unfolding pairAnswer keyedAnswer treeAnswer
         pair-fits f = rw (eq-eqb (tableAnswer t room) 0 accepted, le-leb 1 (h .keys) keyed, eq-eqb (i .refusal) 0 indexed, f)
 
   -- ---- an accepted pair keeps them all

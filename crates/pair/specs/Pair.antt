@@ -18,11 +18,11 @@ use Rattle.index.specs.declared.IndexHeader.{IndexHeader}
 use Rattle.pair.specs.declared.LookedUp.{LookedUp}
 use Rattle.pair.specs.Tree.{fits, treeLeaves, firstKeys, sameEntries}
 
--- root 0 fits exactly when there are no records
+-- 27: root 0 fits exactly when there are no records
 unfoldable pub emptyFits : List ℕ → Header → Bool
 emptyFits t h = eqb (length (recordsOf t h)) 0
 
--- another root fits when its block does, and its level 1 entries name the used blocks that hold records, in chain order, each with
+-- 27: another root fits when its block does, and its level 1 entries name the used blocks that hold records, in chain order, each with
 -- that block's first key
 unfoldable pub rootFits : List ℕ → Header → List ℕ → IndexHeader → Bool
 rootFits t h x i =
@@ -34,12 +34,12 @@ unfoldable pub treeFits : List ℕ → Header → List ℕ → IndexHeader → B
 treeFits t h x i = cond (eqb (i .root) 0) (emptyFits t h) (rootFits t h x i)
 
 -- 21 to 26, then 27
-unfoldable pub indexFits : List ℕ → Header → List ℕ → IndexHeader → ℕ
-indexFits t h x i = cond (eqb (i .refusal) 0) (firstBroken (treeFits t h x i) indexTree 0) (i .refusal)
+unfoldable pub treeAnswer : List ℕ → Header → List ℕ → IndexHeader → ℕ
+treeAnswer t h x i = cond (eqb (i .refusal) 0) (firstBroken (treeFits t h x i) indexTree 0) (i .refusal)
 
 -- 13 comes before them: no key fields
 unfoldable pub keyedAnswer : List ℕ → Header → List ℕ → ℕ
-keyedAnswer t h x = firstBroken (leb 1 (h .keys)) badArgument (indexFits t h x (indexOf x (h .key)))
+keyedAnswer t h x = firstBroken (leb 1 (h .keys)) badArgument (treeAnswer t h x (indexOf x (h .key)))
 
 -- what checking a pair answers, for any bytes and a mark buffer of `room` bytes: the table check comes first
 unfoldable pub pairAnswer : List ℕ → List ℕ → ℕ → ℕ

@@ -74,7 +74,7 @@ module _ (t x : List ℕ) (s : Shapes) where
     pub short : s .key ≤ s .table .size
     pub entries : EntriesInside x (s .index) (s .key)
 
--- what judging a tree asks: an accepted table with key fields, and an accepted index to it
+-- what judging a tree asks: an accepted table, and an index that is accepted for its key length
 pub record Paired (t : List ℕ) (h : Header) (x : List ℕ) (i : IndexHeader) : Type 0 where
   pub table : AcceptedTable t h
   pub index : AcceptedIndex x (h .key) i

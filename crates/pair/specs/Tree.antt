@@ -22,13 +22,13 @@ entryAt x g n b i = record { key = entryKey x g n b i; block = entryBlock x g n 
 
 -- ---- blocks and entries that fit
 
--- an entry above level 1 has the key of the first entry in the block it names; the keys of level 1 entries are judged with their
+-- 27: an entry above level 1 has the key of the first entry in the block it names; the keys of level 1 entries are judged with their
 -- blocks below. The level is that of the block named, 0 for a data block
 unfoldable pub keyRight : List ℕ → Shape → ℕ → ℕ → Entry → Bool
 keyRight x g n zero e = true
 keyRight x g n (suc level) e = isSame (order (e .key) (entryKey x g n (e .block) 0))
 
--- an index block fits when it is in the file, its count is good, it has entries and each of them fits; an entry fits when its block
+-- 27: an index block fits when it is in the file, its count is good, it has entries and each of them fits; an entry fits when its block
 -- fits one level lower. Level 0 is a data block
 unfoldable pub fits : List ℕ → Shape → ℕ → ℕ → ℕ → Bool
 fits x g n zero b = true
@@ -56,7 +56,7 @@ treeLeaves x g n levels root = leaves x g n levels (record { key = []; block = r
 abbrev pub firstEntry : List ℕ → Shape → ℕ → ℕ → Entry
 firstEntry t g n b = record { key = keyAt t g n (record { block = b; place = 0 }); block = b }
 
--- what they are to be: of some blocks of a table those that hold records, in order, each with its first key
+-- 27: what they are to be: of some blocks of a table those that hold records, in order, each with its first key
 unfoldable pub firstKeys : List ℕ → Shape → ℕ → List ℕ → List Entry
 firstKeys t g n [] = []
 firstKeys t g n (b ∷ bs) =
