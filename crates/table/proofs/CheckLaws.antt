@@ -1,6 +1,6 @@
 -- What each answer of the table check says, and what it leaves in the mark buffer. Assumes nothing.
 use Prim.Native.Nat.{ℕ, _≤_, _<_}
-use mathlib.Core.Path.{_≡_, _∙_}
+use mathlib.Core.Path.{_≡_, ap, _∙_}
 use mathlib.Core.Bool.{true, false}
 use mathlib.Core.List.{List, _++_, foldl}
 use lib.ListN.{length, take, drop, replicate, length-replicate}
@@ -61,6 +61,13 @@ module _ (t m : List ℕ) where
   pub header-accepted : headerOf t .refusal ≡ 0 → (blocksAnswer t (headerOf t) (length m) ≡ tableAnswer t (length m)) × (bufferAfter t (headerOf t) m ≡ tableMarks t m)
   unfolding tableAnswer tableMarks
   header-accepted e = (rw (eq-eqb (headerOf t .refusal) 0 e), rw (eq-eqb (headerOf t .refusal) 0 e))
+
+-- the check of the blocks with the header as it was read: r is its answer, m the mark buffer before it and m₁ after it
+pub checked-blocks : (t m m₁ : List ℕ) (h : Header) (r : ℕ) → h ≡ headerOf t → headerOf t .refusal ≡ 0 → r ≡ blocksAnswer t h (length m) → m₁ ≡ bufferAfter t h m →
+    (r ≡ tableAnswer t (length m)) × (m₁ ≡ tableMarks t m)
+checked-blocks t m m₁ h r e z a b =
+    let k = header-accepted t m z in
+    (a ∙ ap (λ (i : Header). blocksAnswer t i (length m)) e ∙ k .0, b ∙ ap (λ (i : Header). bufferAfter t i m) e ∙ k .1)
 
 -- ---- the marks of n blocks taken away, and those lent
 

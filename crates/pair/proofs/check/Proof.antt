@@ -8,8 +8,8 @@ use borrow.Author.Tests.{not-true, not-false}
 use Rattle.header.specs.Header.{headerOf}
 use Rattle.header.specs.declared.Header.{Header}
 use Rattle.header.proofs.AcceptedLaws.{accepted}
-use Rattle.table.specs.Table.{blocksAnswer, bufferAfter, tableAnswer, tableMarks}
-use Rattle.table.proofs.CheckLaws.{header-refused, header-accepted}
+use Rattle.table.specs.Table.{tableAnswer, tableMarks}
+use Rattle.table.proofs.CheckLaws.{header-refused, checked-blocks}
 use Rattle.table.proofs.RuleLaws.{accepted-table}
 use Rattle.index.specs.Header.{indexOf}
 use Rattle.index.specs.declared.IndexHeader.{IndexHeader}
@@ -54,19 +54,11 @@ check-blocks-requires : tie.Need-check-blocks-requires
 check-blocks-requires c κs = let d = c .before in rw (header d) (accepted (T d) (zero d))
 
 -- what the table check answered, and left in the marks
-answered : (c : tie.After-check-blocks) → let d = c .before .before in c .check-blocks .result ≡ tableAnswer (T d) (length (M d))
+answered : (c : tie.After-check-blocks) → let d = c .before .before in (c .check-blocks .result ≡ tableAnswer (T d) (length (M d))) × (c .check-blocks .last .1 .1 .0 ≡ tableMarks (T d) (M d))
 answered c =
     let d = c .before .before in
-    c .check-blocks .ensures .0
-    ∙ ap (λ (h : Header). blocksAnswer (T d) h (length (M d))) (header d)
-    ∙ header-accepted (T d) (M d) (zero d) .0
-
-buffered : (c : tie.After-check-blocks) → let d = c .before .before in c .check-blocks .last .1 .1 .0 ≡ tableMarks (T d) (M d)
-buffered c =
-    let d = c .before .before in
-    c .check-blocks .ensures .1
-    ∙ ap (λ (h : Header). bufferAfter (T d) h (M d)) (header d)
-    ∙ header-accepted (T d) (M d) (zero d) .1
+    let r = c .check-blocks .ensures in
+    checked-blocks (T d) (M d) (c .check-blocks .last .1 .1 .0) (d .before .before .read .result) (c .check-blocks .result) (header d) (zero d) (r .0) (r .1)
 
 same-length : tie.Need-same-length
 same-length c = search needs
@@ -75,7 +67,7 @@ returns-2 : tie.Need-returns-2
 returns-2 c =
     let a = c .before .before .before in
     let d = a .before .before in
-    (answered a ∙ sym (pair-table (T d) (X d) (length (M d)) (λ z. c .if2 .taken (answered a ∙ z))), buffered a)
+    (answered a .0 ∙ sym (pair-table (T d) (X d) (length (M d)) (λ z. c .if2 .taken (answered a .0 ∙ z))), answered a .1)
 
 -- where the table is accepted
 module _ (c : tie.Else2) where
@@ -86,7 +78,7 @@ module _ (c : tie.Else2) where
   D = A .before .before
 
   taken : tableAnswer (T D) (length (M D)) ≡ 0
-  taken = sym (answered A) ∙ c .if2 .left
+  taken = sym (answered A .0) ∙ c .if2 .left
 
 same-length-2 : tie.Need-same-length-2
 same-length-2 c = search needs
@@ -95,7 +87,7 @@ returns-3 : tie.Need-returns-3
 returns-3 c =
     let a = c .before .before in
     let d = D a in
-    (sym (pair-unkeyed (T d) (X d) (length (M d)) (taken a) (ap (λ (h : Header). h .keys) (sym (header d)) ∙ c .if3 .taken)), buffered (A a))
+    (sym (pair-unkeyed (T d) (X d) (length (M d)) (taken a) (ap (λ (h : Header). h .keys) (sym (header d)) ∙ c .if3 .taken)), answered (A a) .1)
 
 keyed : (c : tie.Else3) → 1 ≤ headerOf (T (D (c .before .before))) .keys
 keyed c = let d = D (c .before .before) in pos-of-ne-zero (λ z. c .if3 .left (ap (λ (h : Header). h .keys) (header d) ∙ z))
@@ -118,7 +110,7 @@ returns-4 c =
     let d = D a in (
       ap (λ (i : IndexHeader). i .refusal) (index r)
           ∙ sym (pair-index (T d) (X d) (length (M d)) (taken a) (keyed e) (λ z. c .if4 .taken (ap (λ (i : IndexHeader). i .refusal) (index r) ∙ z))),
-      buffered (A a),
+      answered (A a) .1,
     )
 
 kept : (c : tie.Else4) → let d = D (c .before .before .before .before .before) in indexOf (X d) (headerOf (T d) .key) .refusal ≡ 0
@@ -144,7 +136,7 @@ returns-5 c =
     let e = r .before in
     let a = e .before .before in
     let d = D a in
-    (sym (pair-unfit (T d) (X d) (length (M d)) (taken a) (keyed e) (kept k) (verdict (c .before) ∙ not-true _ (c .if5 .taken))), buffered (A a))
+    (sym (pair-unfit (T d) (X d) (length (M d)) (taken a) (keyed e) (kept k) (verdict (c .before) ∙ not-true _ (c .if5 .taken))), answered (A a) .1)
 
 same-length-5 : tie.Need-same-length-5
 same-length-5 c = search needs
@@ -156,7 +148,7 @@ returns-6 c =
     let e = r .before in
     let a = e .before .before in
     let d = D a in
-    (sym (pair-fits (T d) (X d) (length (M d)) (taken a) (keyed e) (kept k) (verdict (c .before) ∙ not-false _ (c .if5 .left))), buffered (A a))
+    (sym (pair-fits (T d) (X d) (length (M d)) (taken a) (keyed e) (kept k) (verdict (c .before) ∙ not-false _ (c .if5 .left))), answered (A a) .1)
 
 pub check-spec : {M : Type 1} → statement M
 check-spec =

@@ -10,8 +10,8 @@ use Rattle.header.specs.Header.{headerOf}
 use Rattle.header.specs.declared.Header.{Header}
 use Rattle.header.proofs.AcceptedLaws.{accepted}
 use Rattle.blocks.specs.Shape.{shapeOf}
-use Rattle.table.specs.Table.{blocksAnswer, bufferAfter, tableAnswer, tableMarks}
-use Rattle.table.proofs.CheckLaws.{header-refused, header-accepted}
+use Rattle.table.specs.Table.{tableAnswer, tableMarks}
+use Rattle.table.proofs.CheckLaws.{header-refused, checked-blocks}
 use Rattle.table.proofs.RuleLaws.{accepted-table}
 use Rattle.scan.specs.Scan.{keyFits}
 use Rattle.scan.specs.declared.found.Found.{Found}
@@ -61,19 +61,11 @@ check-blocks-requires : tie.Need-check-blocks-requires
 check-blocks-requires c κs = let d = c .before in rw (header d) (accepted (T d) (zero d))
 
 -- what the table check answered, and left in the marks
-answered : (c : tie.After-check-blocks) → let d = c .before .before in c .check-blocks .result ≡ tableAnswer (T d) (length (M d))
+answered : (c : tie.After-check-blocks) → let d = c .before .before in (c .check-blocks .result ≡ tableAnswer (T d) (length (M d))) × (c .check-blocks .last .1 .1 .0 ≡ tableMarks (T d) (M d))
 answered c =
     let d = c .before .before in
-    c .check-blocks .ensures .0
-    ∙ ap (λ (h : Header). blocksAnswer (T d) h (length (M d))) (header d)
-    ∙ header-accepted (T d) (M d) (zero d) .0
-
-buffered : (c : tie.After-check-blocks) → let d = c .before .before in c .check-blocks .last .1 .1 .0 ≡ tableMarks (T d) (M d)
-buffered c =
-    let d = c .before .before in
-    c .check-blocks .ensures .1
-    ∙ ap (λ (h : Header). bufferAfter (T d) h (M d)) (header d)
-    ∙ header-accepted (T d) (M d) (zero d) .1
+    let r = c .check-blocks .ensures in
+    checked-blocks (T d) (M d) (c .check-blocks .last .1 .1 .0) (d .before .before .read .result) (c .check-blocks .result) (header d) (zero d) (r .0) (r .1)
 
 same-length : tie.Need-same-length
 same-length c = search needs
@@ -83,9 +75,9 @@ returns-2 c =
     let a = c .before .before .before in
     let d = a .before .before in
     let e = scans (T d) (K d) (length (M d)) (Refused (a .check-blocks .result))
-    (ap {B = Found} (λ (n : ℕ). Refused n) (answered a)
-    ∙ sym (scan-refused (T d) (K d) (length (M d)) (λ z. c .if2 .taken (answered a ∙ z)))) in
-    (e .0, e .1, buffered a)
+    (ap {B = Found} (λ (n : ℕ). Refused n) (answered a .0)
+    ∙ sym (scan-refused (T d) (K d) (length (M d)) (λ z. c .if2 .taken (answered a .0 ∙ z)))) in
+    (e .0, e .1, answered a .1)
 
 key-fits-requires : tie.Need-key-fits-requires
 key-fits-requires c κs = search needs
@@ -99,7 +91,7 @@ module _ (c : tie.Else2) where
   D = A .before .before
 
   taken : tableAnswer (T D) (length (M D)) ≡ 0
-  taken = sym (answered A) ∙ c .if2 .left
+  taken = sym (answered A .0) ∙ c .if2 .left
 
 same-length-2 : tie.Need-same-length-2
 same-length-2 c = search needs
@@ -110,7 +102,7 @@ returns-3 c =
     let d = D a in
     let unfit = ap (λ (h : Header). keyFits h (K d)) (sym (header d)) ∙ sym (c .before .key-fits .ensures) ∙ not-true _ (c .if3 .taken) in
     let e = scans (T d) (K d) (length (M d)) (Refused 13) (sym (scan-unfit (T d) (K d) (length (M d)) (taken a) unfit)) in
-    (e .0, e .1, buffered (A a))
+    (e .0, e .1, answered (A a) .1)
 
 -- where the key fits
 fits : (c : tie.Else3) → let d = D (c .before .before) in keyFits (headerOf (T d)) (K d) ≡ true
@@ -145,7 +137,7 @@ returns-4 c =
     (c .find-from .ensures
     ∙ first-all (T d) (headerOf (T d)) _ _ (shape (c .before .before)) (first d) (K d)
     ∙ sym (scan-first (T d) (K d) (length (M d)) (taken a) (fits (c .before .before .before)))) in
-    (e .0, e .1, buffered (A a))
+    (e .0, e .1, answered (A a) .1)
 
 pub find-spec : {M : Type 1} → statement M
 find-spec =
