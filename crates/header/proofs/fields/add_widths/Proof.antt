@@ -1,6 +1,6 @@
 -- `add_widths` meets its contract: after f turns the first f pairs are right and their sums stand. Assumes nothing.
 use mathlib.Core.Path.{_≡_, sym, _∙_}
-use mathlib.Core.Bool.{false, false≢true}
+use mathlib.Core.Bool.{false≢true}
 use Prim.Native.Nat.{_-_, _<_}
 use native.Mathlib.Omega.{arith}
 use borrow.Author.Needs.{needs}
