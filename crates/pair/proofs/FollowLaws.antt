@@ -17,6 +17,7 @@ use Rattle.blocks.specs.Shape.{recordAt}
 use Rattle.blocks.specs.declared.Shape.{Shape}
 use Rattle.chain.specs.Links.{nextOf}
 use Rattle.table.specs.Steps.{GoodChain}
+use Rattle.scan.proofs.ChainLaws.{blocksFrom}
 use Rattle.index.specs.Entries.{entriesIn, entryKey, entryBlock}
 use Rattle.pair.specs.Tree.{Entry, entryAt, keyRight, fits, joined, leaves, treeLeaves, firstEntry, firstKeys, sameEntries}
 use Rattle.pair.specs.Steps.{holdingFrom, isExpected, follow, leafFrom, entryFrom, blockFrom, Descendable}
@@ -24,7 +25,7 @@ use Rattle.pair.specs.declared.tree.Fit.{Fit}
 use Rattle.pair.specs.declared.tree.Fit.the-variants.{Next, Unfit}
 use Rattle.pair.specs.declared.tree.Shapes.{Shapes}
 use Rattle.pair.proofs.FitLaws.{fitting, under}
-use Rattle.pair.proofs.HoldingLaws.{blocksFrom, keys-ended, keys-next}
+use Rattle.pair.proofs.HoldingLaws.{keys-ended, keys-next}
 
 -- one part of a tree after another
 abbrev andThen : Fit → (ℕ → Fit) → Fit

@@ -9,26 +9,22 @@ use borrow.Author.Tests.{eq-eqb, ne-eqb}
 use Rattle.blocks.specs.Counts.{countIn}
 use Rattle.blocks.specs.declared.Shape.{Shape}
 use Rattle.blocks.specs.declared.count.Count.the-variants.{Records}
-use Rattle.chain.specs.Chain.{chainFrom}
 use Rattle.chain.specs.Links.{nextOf}
 use Rattle.table.specs.Records.{held}
 use Rattle.table.specs.Steps.{GoodChain}
 use Rattle.table.proofs.GoodChainLaws.{good-some, good-ends, good-follows, good-on}
+use Rattle.scan.proofs.ChainLaws.{blocksFrom}
 use Rattle.pair.specs.Tree.{firstEntry, firstKeys}
 use Rattle.pair.specs.Steps.{firstHolding, holdingFrom}
 
 module _ (t : List ℕ) (g : Shape) where
-  -- the blocks from number b on
-  abbrev pub blocksFrom : ℕ → List ℕ
-  blocksFrom b = chainFrom (nextOf t g) (g .blocks) b
-
   -- ---- from a number on
 
-  pub holding-none : (b : ℕ) → b ≡ 0 → GoodChain t g b (blocksFrom b) → holdingFrom t g b ≡ 0
+  pub holding-none : (b : ℕ) → b ≡ 0 → GoodChain t g b (blocksFrom t g b) → holdingFrom t g b ≡ 0
   unfolding firstHolding
-  holding-none b e c = ap (firstHolding t g) (good-ends t g b (blocksFrom b) e c)
+  holding-none b e c = ap (firstHolding t g) (good-ends t g b (blocksFrom t g b) e c)
 
-  module _ (b : ℕ) (ne : b ≡ 0 → ⊥) (c : GoodChain t g b (blocksFrom b)) (n : ℕ) (e : countIn t g b ≡ Records n) where
+  module _ (b : ℕ) (ne : b ≡ 0 → ⊥) (c : GoodChain t g b (blocksFrom t g b)) (n : ℕ) (e : countIn t g b ≡ Records n) where
     pub holding-here : (n ≡ 0 → ⊥) → holdingFrom t g b ≡ b
     unfolding firstHolding held
     holding-here some = ap (firstHolding t g) (good-on t g b ne c .0) ∙ rw (e, ne-eqb n 0 some)
@@ -45,13 +41,13 @@ module _ (t : List ℕ) (g : Shape) where
     pub high : b ≤ g .blocks
     pub others : ℕ
     pub counted : countIn t g b ≡ Records (suc others)
-    pub onward : GoodChain t g (nextOf t g b) (blocksFrom (nextOf t g b))
+    pub onward : GoodChain t g (nextOf t g b) (blocksFrom t g (nextOf t g b))
 
   module _ (n : ℕ) where
     -- what some blocks of a chain come to: none holds records, or the first one that does, and those after it
     data FirstHeld (bs : List ℕ) : ℕ → Type 0 where
       none : firstKeys t g n bs ≡ [] → FirstHeld bs 0
-      some : {b : ℕ} → Holding b → firstKeys t g n bs ≡ firstEntry t g n b ∷ firstKeys t g n (blocksFrom (nextOf t g b)) → FirstHeld bs b
+      some : {b : ℕ} → Holding b → firstKeys t g n bs ≡ firstEntry t g n b ∷ firstKeys t g n (blocksFrom t g (nextOf t g b)) → FirstHeld bs b
 
     first-held : (b : ℕ) (bs : List ℕ) → GoodChain t g b bs → FirstHeld bs (firstHolding t g bs)
     unfolding firstHolding firstKeys held
@@ -69,18 +65,18 @@ module _ (t : List ℕ) (g : Shape) where
             rw (e, eqb·suc-zero) (some (record { low = w .low; high = w .high; others = m; counted = e; onward = rw h (w .onward) }) (rw (e, eqb·suc-zero, h)))
 
     -- where none holds records, there are no first keys
-    pub keys-ended : (c : ℕ) → GoodChain t g c (blocksFrom c) → holdingFrom t g c ≡ 0 → firstKeys t g n (blocksFrom c) ≡ []
-    keys-ended c good z = go (holdingFrom t g c) (first-held c (blocksFrom c) good) z
+    pub keys-ended : (c : ℕ) → GoodChain t g c (blocksFrom t g c) → holdingFrom t g c ≡ 0 → firstKeys t g n (blocksFrom t g c) ≡ []
+    keys-ended c good z = go (holdingFrom t g c) (first-held c (blocksFrom t g c) good) z
       where
-        go : (b : ℕ) → FirstHeld (blocksFrom c) b → b ≡ 0 → firstKeys t g n (blocksFrom c) ≡ []
+        go : (b : ℕ) → FirstHeld (blocksFrom t g c) b → b ≡ 0 → firstKeys t g n (blocksFrom t g c) ≡ []
         go b (none f) z = f
         go b (some k f) z = absurd (omega (arith, k .low))
 
     -- else the next one that does is first, with its first key
-    pub keys-next : (c : ℕ) → GoodChain t g c (blocksFrom c) → (holdingFrom t g c ≡ 0 → ⊥) →
-        Holding (holdingFrom t g c) × (firstKeys t g n (blocksFrom c) ≡ firstEntry t g n (holdingFrom t g c) ∷ firstKeys t g n (blocksFrom (nextOf t g (holdingFrom t g c))))
-    keys-next c good ne = go (holdingFrom t g c) (first-held c (blocksFrom c) good) ne
+    pub keys-next : (c : ℕ) → GoodChain t g c (blocksFrom t g c) → (holdingFrom t g c ≡ 0 → ⊥) →
+        Holding (holdingFrom t g c) × (firstKeys t g n (blocksFrom t g c) ≡ firstEntry t g n (holdingFrom t g c) ∷ firstKeys t g n (blocksFrom t g (nextOf t g (holdingFrom t g c))))
+    keys-next c good ne = go (holdingFrom t g c) (first-held c (blocksFrom t g c) good) ne
       where
-        go : (b : ℕ) → FirstHeld (blocksFrom c) b → (b ≡ 0 → ⊥) → Holding b × (firstKeys t g n (blocksFrom c) ≡ firstEntry t g n b ∷ firstKeys t g n (blocksFrom (nextOf t g b)))
+        go : (b : ℕ) → FirstHeld (blocksFrom t g c) b → (b ≡ 0 → ⊥) → Holding b × (firstKeys t g n (blocksFrom t g c) ≡ firstEntry t g n b ∷ firstKeys t g n (blocksFrom t g (nextOf t g b)))
         go b (none f) ne = absurd (ne refl)
         go b (some k f) ne = (k, f)

@@ -11,8 +11,9 @@ use Rattle.blocks.proofs.ShapeLaws.{head-inside}
 use Rattle.chain.specs.Links.{nextOf}
 use Rattle.table.specs.Steps.{GoodChain}
 use Rattle.table.proofs.GoodChainLaws.{Block, good-on}
+use Rattle.scan.proofs.ChainLaws.{blocksFrom}
 use Rattle.pair.specs.Steps.{Followed, holdingFrom}
-use Rattle.pair.proofs.HoldingLaws.{blocksFrom, holding-none, holding-here, holding-later}
+use Rattle.pair.proofs.HoldingLaws.{holding-none, holding-here, holding-later}
 use borrow.Author.Needs.{needs}
 use Rattle.pair.proofs.tree.first_holding.Statement.{statement}
 use Rattle.pair.proofs.tree.first_holding.Tie as tie
