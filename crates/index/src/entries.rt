@@ -70,7 +70,7 @@ fn find_below(x: &[u8], shape: Shape, block: usize, count: u16, key: &[u8]) -> B
     Below::Nothing
 }
 
-// The way down from an index block.
+// The way down from an index block. A helper of the walk, which has judged the index's header.
 pub fn descend(x: &[u8], shape: Shape, block: usize, key: &[u8]) -> Descent
     requires { ⌜ EntriesInside (now x) shape (length (now key)) ⌝ }
     ensures { λ r. ⌜ r ≡ descentOf (now (x .entry)) shape (now (key .entry)) block ⌝ }

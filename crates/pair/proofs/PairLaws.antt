@@ -1,25 +1,19 @@
 -- What checking a pair answers, one law for each outcome, and what an accepted pair keeps. Assumes nothing.
 use Prim.Native.Nat.{ℕ, _≤_}
-use mathlib.Core.Path.{_≡_, refl, sym, _∙_}
-use mathlib.Core.Bool.{Bool, true, false}
+use mathlib.Core.Path.{_≡_}
+use mathlib.Core.Bool.{true, false, cond}
 use mathlib.Core.List.{List}
 use native.Mathlib.Omega.{arith}
-use lib.Dec.{eqb, leb}
-use borrow.Author.Tests.{eq-eqb, ne-eqb, eqb-true, eqb-false, le-leb, lt-leb, leb-true, leb-false}
+use lib.Dec.{leb}
+use borrow.Author.Tests.{eq-eqb, ne-eqb, le-leb, lt-leb, leb-true}
 use Rattle.header.specs.Header.{headerOf}
 use Rattle.header.specs.declared.Header.{Header}
+use Rattle.header.proofs.RuleLaws.{kept-of}
 use Rattle.table.specs.Table.{tableAnswer}
+use Rattle.table.proofs.RuleLaws.{accepted-first}
 use Rattle.index.specs.Header.{indexOf}
 use Rattle.index.specs.declared.IndexHeader.{IndexHeader}
 use Rattle.pair.specs.Pair.{treeFits, treeAnswer, keyedAnswer, pairAnswer}
-
--- a number that is the answer where it is not 0, is 0 where the answer is
-refusal-first : (n answer : ℕ) → ((n ≡ 0 → ⊥) → answer ≡ n) → answer ≡ 0 → n ≡ 0
-refusal-first n answer h e = go (eqb n 0) refl
-  where
-    go : (b : Bool) → eqb n 0 ≡ b → n ≡ 0
-    go true f = eqb-true n 0 f
-    go false f = sym (h (eqb-false n 0 f)) ∙ e
 
 module _ (t x : List ℕ) (room : ℕ) where
   -- the table's header, and the index's by the table's key length
@@ -61,26 +55,11 @@ module _ (t x : List ℕ) (room : ℕ) where
 
   -- ---- an accepted pair keeps them all
 
-  module _ (e : pairAnswer t x room ≡ 0) where
-    table-kept : tableAnswer t room ≡ 0
-    table-kept = refusal-first (tableAnswer t room) (pairAnswer t x room) pair-table e
-
-    keys-kept : 1 ≤ h .keys
-    keys-kept = go (leb 1 (h .keys)) refl
-      where
-        go : (b : Bool) → leb 1 (h .keys) ≡ b → 1 ≤ h .keys
-        go true f = leb-true 1 (h .keys) f
-        go false f = let z : h .keys ≡ 0 = omega (arith, leb-false 1 (h .keys) f) in absurd (omega (arith, e, pair-unkeyed table-kept z))
-
-    index-kept : i .refusal ≡ 0
-    index-kept = refusal-first (i .refusal) (pairAnswer t x room) (pair-index table-kept keys-kept) e
-
-    tree-kept : treeFits t h x i ≡ true
-    tree-kept = go (treeFits t h x i) refl
-      where
-        go : (b : Bool) → treeFits t h x i ≡ b → treeFits t h x i ≡ true
-        go true f = f
-        go false f = absurd (omega (arith, e, pair-unfit table-kept keys-kept index-kept f))
-
-    pub pair-parts : (tableAnswer t room ≡ 0) × (1 ≤ h .keys) × (i .refusal ≡ 0) × (treeFits t h x i ≡ true)
-    pair-parts = (table-kept, keys-kept, index-kept, tree-kept)
+  pub pair-parts : pairAnswer t x room ≡ 0 → (tableAnswer t room ≡ 0) × (1 ≤ h .keys) × (i .refusal ≡ 0) × (treeFits t h x i ≡ true)
+  unfolding pairAnswer keyedAnswer treeAnswer
+  pair-parts e =
+      let table = accepted-first (tableAnswer t room) (keyedAnswer t h x) e in
+      let keyed = kept-of (leb 1 (h .keys)) 12 (treeAnswer t h x i) (table .1) in
+      let index = accepted-first (i .refusal) (cond (treeFits t h x i) 0 27) (keyed .1) in
+      let tree = kept-of (treeFits t h x i) 26 0 (index .1) in
+      (table .0, leb-true 1 (h .keys) (keyed .0), index .0, tree .0)

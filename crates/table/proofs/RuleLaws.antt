@@ -46,7 +46,7 @@ unfolding rulesAnswer
 records-take t h k = rw (k .chains, k .counts, k .few, k .keys)
 
 -- the header's number comes first
-accepted-first : (n rest : ℕ) → cond (eqb n 0) rest n ≡ 0 → (n ≡ 0) × (rest ≡ 0)
+pub accepted-first : (n rest : ℕ) → cond (eqb n 0) rest n ≡ 0 → (n ≡ 0) × (rest ≡ 0)
 accepted-first zero rest e = (refl, e)
 accepted-first (suc n) rest e = absurd (let z : suc n ≡ 0 = rw eqb·suc-zero at e in omega arith)
 

@@ -1,4 +1,5 @@
 // Zero bytes: whether a range holds nothing else, and how many bytes stand before the first one.
+// The functions are helpers of the crates above: each `requires` says where its bytes stand.
 ghost use mathlib.Core.Path.{_≡_};
 ghost use Prim.Native.Nat.{_+_, _≤_};
 ghost use lib.ListN.{length};

@@ -1,5 +1,5 @@
 -- `block` is safe and ends: what is left falls. Assumes nothing.
-use Prim.Native.Nat.{_-_, _≤_}
+use Prim.Native.Nat.{_≤_}
 use borrow.Author.Needs.{needs}
 use Rattle.pair_test.proofs.every.block.Statement.{statement}
 use Rattle.pair_test.proofs.every.block.Tie as tie

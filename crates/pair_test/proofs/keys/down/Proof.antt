@@ -1,5 +1,5 @@
 -- `down` is safe and ends: its places fall from n. Assumes nothing.
-use Prim.Native.Nat.{_-_, _≤_}
+use Prim.Native.Nat.{_≤_}
 use borrow.Author.Needs.{needs}
 use Rattle.pair_test.proofs.keys.down.Statement.{statement}
 use Rattle.pair_test.proofs.keys.down.Tie as tie
