@@ -15,7 +15,7 @@ use Rattle.words.specs.Zeros.{allZero, beforeZero}
 use Rattle.words.proofs.ZeroLaws.{before-most}
 use Rattle.header.specs.Refusals.{noMeaning, badArgument}
 use Rattle.header.specs.declared.Header.{Header}
-use Rattle.header.specs.Kinds.{isBlob}
+use Rattle.header.specs.Kinds.{isBlob, Permitted}
 use Rattle.header.specs.Header.{headerOf, fieldOf}
 use Rattle.header.specs.Rules.{Accepted}
 use Rattle.header.specs.declared.kind.FieldKind.{FieldKind}
@@ -102,32 +102,40 @@ module _ (t : List ℕ) (b p f : ℕ) (v : Value) where
 abbrev pub ends : Cell → ℕ
 ends c = partOf c .start + partOf c .len
 
-ends-if : (b : Bool) (c d : Cell) (n : ℕ) → ends c ≤ n → ends d ≤ n → ends (cond b c d) ≤ n
-ends-if true c d n h k = h
-ends-if false c d n h k = k
+-- a part ends no later than the w bytes at an offset, and is no longer
+abbrev Within : Cell → ℕ → ℕ → Type 0
+Within c at w = (ends c ≤ at + w) × (partOf c .len ≤ w)
 
-date-ends : (z : ℤ) (n : ℕ) → ends (dateCell z) ≤ n
+within-if : (b : Bool) (c d : Cell) (at w : ℕ) → Within c at w → Within d at w → Within (cond b c d) at w
+within-if true c d at w h k = h
+within-if false c d at w h k = k
+
+date-within : (z : ℤ) (at w : ℕ) → Within (dateCell z) at w
 unfolding dateCell partOf valuePart
-date-ends (pos d) n = ends-if (isDate d) (Is (Val.Date d)) (Refused noMeaning) n (omega arith) (omega arith)
-date-ends (negsuc d) n = omega arith
+date-within (pos d) at w = within-if (isDate d) (Is (Val.Date d)) (Refused noMeaning) at w (omega arith, omega arith) (omega arith, omega arith)
+date-within (negsuc d) at w = (omega arith, omega arith)
 
-value-ends : (kind : FieldKind) (s : List ℕ) (at w : ℕ) → ends (valueAt kind s at w) ≤ at + w
+value-within : (kind : FieldKind) (s : List ℕ) (at w : ℕ) → Within (valueAt kind s at w) at w
 unfolding valueAt textWith numberCell logicalCell partOf valuePart
-value-ends Kin.Text s at w =
-    ends-if (allZero s (at + beforeZero s at w) (w - beforeZero s at w)) (Is (Val.Text at (beforeZero s at w))) (Refused noMeaning) (at + w) (omega (arith, before-most s at w)) (omega arith)
-value-ends Kin.Date s at w = date-ends (signedAt s at w) (at + w)
-value-ends Kin.Short s at w = omega arith
-value-ends Kin.Long s at w = omega arith
-value-ends Kin.Number s at w = ends-if (finite (doubleAt s at w)) (Is (Val.Number (doubleAt s at w))) (Refused noMeaning) (at + w) (omega arith) (omega arith)
-value-ends Kin.Logical s at w =
-    ends-if (eqb (big s at w) falseByte) (Is (Val.Logical false)) (cond (eqb (big s at w) trueByte) (Is (Val.Logical true)) (Refused noMeaning)) (at + w) (omega arith)
-    (ends-if (eqb (big s at w) trueByte) (Is (Val.Logical true)) (Refused noMeaning) (at + w) (omega arith) (omega arith))
-value-ends Kin.Blob s at w = omega arith
+value-within Kin.Text s at w =
+    let m = before-most s at w in
+    within-if (allZero s (at + beforeZero s at w) (w - beforeZero s at w)) (Is (Val.Text at (beforeZero s at w))) (Refused noMeaning) at w (omega (arith, m), m) (omega arith, omega arith)
+value-within Kin.Date s at w = date-within (signedAt s at w) at w
+value-within Kin.Short s at w = (omega arith, omega arith)
+value-within Kin.Long s at w = (omega arith, omega arith)
+value-within Kin.Number s at w = within-if (finite (doubleAt s at w)) (Is (Val.Number (doubleAt s at w))) (Refused noMeaning) at w (omega arith, omega arith) (omega arith, omega arith)
+value-within Kin.Logical s at w =
+    within-if (eqb (big s at w) falseByte) (Is (Val.Logical false)) (cond (eqb (big s at w) trueByte) (Is (Val.Logical true)) (Refused noMeaning)) at w (omega arith, omega arith)
+    (within-if (eqb (big s at w) trueByte) (Is (Val.Logical true)) (Refused noMeaning) at w (omega arith, omega arith) (omega arith, omega arith))
+value-within Kin.Blob s at w = (omega arith, omega arith)
 
--- a text ends no later than its cell
-cell-ends : (kind : FieldKind) (s : List ℕ) (at w : ℕ) → ends (cellAt kind s at w) ≤ at + w
+-- a text is within its cell
+cell-within : (kind : FieldKind) (s : List ℕ) (at w : ℕ) → Within (cellAt kind s at w) at w
 unfolding cellAt partOf valuePart
-cell-ends kind s at w = ends-if (not (isBlob kind) && allZero s at w) (Is Val.Blank) (valueAt kind s at w) (at + w) (omega arith) (value-ends kind s at w)
+cell-within kind s at w = within-if (not (isBlob kind) && allZero s at w) (Is Val.Blank) (valueAt kind s at w) at w (omega arith, omega arith) (value-within kind s at w)
+
+stands-within : {t : List ℕ} {b p f : ℕ} {v : Value} (s : Stands t b p f v) → Within (Is v) (s .at) (s .width)
+stands-within {t} s = subst (λ (c : Cell). Within c (s .at) (s .width)) (s .means) (cell-within (s .kind) t (s .at) (s .width))
 
 -- a text ends inside the table
 pub part-inside : (t : List ℕ) (b p f : ℕ) → ends (cellOf t b p f) ≤ length t
@@ -138,7 +146,29 @@ part-inside t b p f = go (cellOf t b p f) refl
     go (Refused n) e = omega arith
     go (Is v) e =
         let s = stands t b p f v e in
-        omega (arith, subst (λ (c : Cell). ends c ≤ s .at + s .width) (s .means) (cell-ends (s .kind) t (s .at) (s .width)), s .inside)
+        omega (arith, stands-within s .0, s .inside)
+
+-- a field is at most 255 bytes wide
+wide-most : (kind : FieldKind) (w : ℕ) → Permitted kind w → w ≤ 255
+unfolding Permitted
+wide-most Kin.Text w h = h .1
+wide-most Kin.Date w h = omega (arith, h)
+wide-most Kin.Short w h = omega (arith, h)
+wide-most Kin.Long w h = omega (arith, h)
+wide-most Kin.Number w h = omega (arith, h)
+wide-most Kin.Logical w h = omega (arith, h)
+wide-most Kin.Blob w h = omega (arith, h .1)
+
+-- and so no text is longer
+pub part-most : (t : List ℕ) (b p f : ℕ) → partOf (cellOf t b p f) .len ≤ 255
+unfolding partOf
+part-most t b p f = go (cellOf t b p f) refl
+  where
+    go : (c : Cell) → cellOf t b p f ≡ c → partOf c .len ≤ 255
+    go (Refused n) e = omega arith
+    go (Is v) e =
+        let s = stands t b p f v e in
+        omega (arith, stands-within s .1, wide-most (s .kind) (s .width) (s .permitted))
 
 part-text : (s : List ℕ) (c : Cell) → ends c ≤ length s → range s (partOf c .start) (partOf c .len) ≡ textOf (answerOf s c .1)
 unfolding partOf valuePart answerOf contentOf textOf

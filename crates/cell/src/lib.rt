@@ -35,8 +35,9 @@ pub fn read(table: &[u8], block: usize, place: usize, field: usize) -> Cell
     read_in(table, h, block, place, field)
 }
 
-// The cell of a table whose header is accepted: what `read` answers once rules 1 to 7 are kept.
-fn read_in(table: &[u8], h: Header, block: usize, place: usize, field: usize) -> Cell
+// The cell of a table whose header is accepted: what `read` answers once rules 1 to 7 are kept. A helper: its caller
+// has read the header.
+pub fn read_in(table: &[u8], h: Header, block: usize, place: usize, field: usize) -> Cell
     requires { ⌜ Accepted (now table) h ⌝ }
     ensures { λ r. ⌜ r ≡ blockCell (now (table .entry)) h block place field ⌝ }
 {

@@ -1,0 +1,90 @@
+// The listing of a table: its first line, and a line for each record. What a program prints of any bytes is `head` and,
+// for each record in chain order, `line`.
+mod cells;
+mod put;
+
+ghost use mathlib.Core.Path.{_≡_};
+ghost use mathlib.Core.List.{_++_};
+ghost use lib.ListN.{drop, length};
+ghost use Rattle.io.specs.Counts.{Counts};
+ghost use Rattle.listing.specs.Listing.{headOf, headText, lineOf, listedCount, refusedText};
+ghost use Rattle.listing.specs.Steps.{Wrote};
+use header::refusal;
+use put::put_byte;
+use put::put_bytes;
+use put::put_decimal;
+use table::check_blocks;
+
+// The longest table that is listed, in bytes.
+pub const MOST_BYTES: usize = 65536;
+
+// The first line: its length, and how many records' lines come after it; none with a refusal.
+pub struct HeadLine {
+    pub len: usize,
+    pub records: u32,
+}
+
+// Puts the first line of any bytes' listing to the front of a buffer: the numbers of fields, key fields and records;
+// or the refusal, 14 for a table of more than MOST_BYTES, else the table check's. Behind the line no byte is touched.
+pub fn head(table: &[u8], out: &mut [u8; 65536]) -> HeadLine
+    ensures { λ r. ⌜ Counts (r .len) (now (out .exit)) ⌝ }
+    ensures { λ r. ⌜ (r .len ≡ length (headOf (now (table .entry)))) × (r .records ≡ listedCount (now (table .entry))) × (now (out .exit) ≡ headOf (now (table .entry)) ++ drop (length (headOf (now (table .entry)))) (now (out .entry))) ⌝ }
+{
+    if MOST_BYTES < table.len() {
+        return refused(refusal::SHORT_BUFFER, out);
+    }
+    let h = header::read(table);
+    if h.refusal != refusal::ACCEPTED {
+        return refused(h.refusal, out);
+    }
+    let mut marks = [0u8; 32767];
+    let answer = check_blocks(table, h, &mut marks);
+    if answer != refusal::ACCEPTED {
+        return refused(answer, out);
+    }
+    let len = put_head(out, h.fields, h.keys, h.records);
+    HeadLine {
+        len,
+        records: h.records,
+    }
+}
+
+// The line of a refusal.
+fn refused(number: u8, out: &mut [u8; 65536]) -> HeadLine
+    ensures { λ r. ⌜ (length (now (out .entry)) ≡ 65536) × (r .records ≡ 0) × Wrote (now (out .entry)) 0 (refusedText number) (now (out .exit)) (r .len) ⌝ }
+{
+    let number_at = put_bytes(out, 0, b"refused ");
+    let end = put_decimal(out, number_at, number as u64);
+    let len = put_byte(out, end, b'\n');
+    HeadLine { len, records: 0 }
+}
+
+// The head line.
+fn put_head(out: &mut [u8; 65536], fields: u16, keys: u16, records: u32) -> usize
+    ensures { λ r. ⌜ (length (now (out .entry)) ≡ 65536) × Wrote (now (out .entry)) 0 (headText fields keys records) (now (out .exit)) r ⌝ }
+{
+    let a = put_bytes(out, 0, b"fields ");
+    let b = put_decimal(out, a, fields as u64);
+    let c = put_bytes(out, b, b" key ");
+    let d = put_decimal(out, c, keys as u64);
+    let e = put_bytes(out, d, b" records ");
+    let f = put_decimal(out, e, records as u64);
+    put_byte(out, f, b'\n')
+}
+
+// Puts the line of the record at a block and a place (from 0) of any bytes to the front of a buffer: block.place, then
+// each cell after a bar. Behind the line no byte is touched.
+pub fn line(table: &[u8], block: u16, place: u16, out: &mut [u8; 65536]) -> usize
+    ensures { λ r. ⌜ Counts r (now (out .exit)) ⌝ }
+    ensures { λ r. ⌜ (r ≡ length (lineOf (now (table .entry)) block place)) × (now (out .exit) ≡ lineOf (now (table .entry)) block place ++ drop (length (lineOf (now (table .entry)) block place)) (now (out .entry))) ⌝ }
+{
+    let h = header::read(table);
+    let a = put_decimal(out, 0, block as u64);
+    let b = put_byte(out, a, b'.');
+    let c = put_decimal(out, b, place as u64);
+    if h.refusal != refusal::ACCEPTED {
+        return put_byte(out, c, b'\n');
+    }
+    let end = cells::put_cells(out, c, table, h, block as usize, place as usize);
+    put_byte(out, end, b'\n')
+}
