@@ -3,6 +3,7 @@ pub mod Conjunctions
 pub mod DigitLaws
 pub mod EachLaws
 pub mod NumberLaws
+pub mod NumberOrder
 pub mod OrderLaws
 pub mod Ranges
 pub mod SignedLaws

@@ -61,7 +61,7 @@ first x y = go (ltb x y) refl (ltb y x) refl
     go false e true f = above (ltb-true y x f)
     go false e false f = level (le-antisymm (ltb-false y x f) (ltb-false x y e))
 
-order-rest : (x : ℕ) (xs ys : List ℕ) → order (x ∷ xs) (x ∷ ys) ≡ order xs ys
+pub order-rest : (x : ℕ) (xs ys : List ℕ) → order (x ∷ xs) (x ∷ ys) ≡ order xs ys
 unfolding order
 order-rest x xs ys = let e : ltb x x ≡ false = le-ltb x x (omega arith) in rw e
 

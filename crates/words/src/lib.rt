@@ -1,8 +1,12 @@
 // Numbers and byte order as the files have them: headers and block heads hold the low byte first, cells
 // and index entries the high byte first, and keys compare byte by byte.
 // The functions are helpers of the crates above: each `requires` says where its bytes stand.
+mod bytes;
+mod eight;
 mod zeros;
 
+use bytes::compare_bytes;
+use eight::eight;
 pub use zeros::all_zero;
 pub use zeros::before_zero;
 ghost use mathlib.Core.Path.{_≡_};
@@ -109,22 +113,23 @@ pub fn put_number(buffer: &mut [u8], width: usize, n: u64)
     }
 }
 
-// How the `n` bytes of `a` from `p` compare with the `n` bytes of `b` from `q`.
+// How the `n` bytes of `a` from `p` compare with the `n` bytes of `b` from `q`: eight at a time, as numbers, and what is
+// left byte by byte.
 pub fn compare(a: &[u8], p: usize, b: &[u8], q: usize, n: usize) -> Order
     requires { ⌜ (p + n ≤ length (now a)) × (q + n ≤ length (now b)) ⌝ }
     ensures { λ r. ⌜ r ≡ order (range (now (a .entry)) p n) (range (now (b .entry)) q n) ⌝ }
 {
     let mut i = 0;
-    while i < n {
-        let u = a[p + i];
-        let v = b[q + i];
+    while 8 <= n - i {
+        let u = eight(a, p + i);
+        let v = eight(b, q + i);
         if u < v {
             return Order::Less;
         }
         if v < u {
             return Order::More;
         }
-        i += 1;
+        i += 8;
     }
-    Order::Same
+    compare_bytes(a, p + i, b, q + i, n - i)
 }

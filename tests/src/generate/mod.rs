@@ -1,0 +1,14 @@
+//! Tables and indexes that keep every rule of document 01, over the whole space of its rules.
+
+mod cells;
+mod image;
+mod index;
+mod keys;
+mod shape;
+mod table;
+
+use cells::stored_cell;
+pub use image::{TableImage, UsedBlock};
+pub use index::{index_for, tree, IndexImage, IndexShape, Leaf};
+pub use shape::{Shape, StoredField};
+pub use table::{huge_table, small_table, table};

@@ -1,0 +1,109 @@
+//! Field kinds and rule 7 (document 01, "Field rules").
+
+use super::{Header, Refusal};
+use crate::codes;
+use crate::layout::{field_area, names, MOST_NAME};
+
+/// What a field's cells mean.
+#[derive(Clone, Copy, Debug, PartialEq, Eq)]
+pub enum Kind {
+    /// Text of at most the field's width.
+    Text,
+    /// A day number.
+    Date,
+    /// A 16-bit number.
+    Short,
+    /// A 32-bit number.
+    Long,
+    /// A double, meant as money.
+    Currency,
+    /// A double.
+    Number,
+    /// True or false.
+    Logical,
+    /// A memo or another blob.
+    Blob,
+}
+
+/// One field of a table.
+#[derive(Clone, Copy, Debug, PartialEq, Eq)]
+pub struct Field {
+    /// What its cells mean.
+    pub kind: Kind,
+    /// Bytes in each cell.
+    pub width: usize,
+}
+
+impl Field {
+    /// The field that a stored type and width stand for, where they are permitted.
+    pub fn from_stored(code: u8, width: u8) -> Option<Field> {
+        let (kind, widths) = match code {
+            codes::TEXT => (Kind::Text, 1..=255),
+            codes::DATE => (Kind::Date, 4..=4),
+            codes::SHORT => (Kind::Short, 2..=2),
+            codes::LONG => (Kind::Long, 4..=4),
+            codes::CURRENCY => (Kind::Currency, 8..=8),
+            codes::NUMBER => (Kind::Number, 8..=8),
+            codes::LOGICAL => (Kind::Logical, 1..=1),
+            codes::MEMO => (Kind::Blob, 11..=250),
+            codes::FIRST_BLOB..=codes::LAST_BLOB => (Kind::Blob, 10..=250),
+            _ => return None,
+        };
+        let width = usize::from(width);
+        widths.contains(&width).then_some(Field { kind, width })
+    }
+}
+
+/// The stored types and widths, two bytes a field, and the key length of a table that keeps rule 7.
+pub struct Fields<'a> {
+    stored: &'a [u8],
+    /// The widths of the key fields, added up.
+    pub key_length: usize,
+}
+
+impl<'a> Fields<'a> {
+    /// Reads the fields of a table that keeps rules 1 to 6.
+    pub fn read(bytes: &'a [u8], header: &Header) -> Result<Fields<'a>, Refusal> {
+        Fields::keep_rules(bytes, header).ok_or(Refusal::Field)
+    }
+
+    fn keep_rules(bytes: &'a [u8], header: &Header) -> Option<Fields<'a>> {
+        let inside = &bytes[..header.header_size];
+        let start = field_area(header.version);
+        let stored = inside.get(start..start + 2 * header.fields)?;
+        let mut widths = 0;
+        let mut key_length = 0;
+        for (place, pair) in stored.chunks_exact(2).enumerate() {
+            let field = Field::from_stored(pair[0], pair[1])?;
+            widths += field.width;
+            if place < header.key_fields {
+                if field.kind == Kind::Blob {
+                    return None;
+                }
+                key_length += field.width;
+            }
+        }
+        let named = inside.get(names(header.version, header.fields)..)?;
+        let good = widths == header.record_size && names_fit(named, header.fields);
+        good.then_some(Fields { stored, key_length })
+    }
+
+    /// The fields in their order.
+    pub fn iter(&self) -> impl Iterator<Item = Field> + 'a {
+        self.stored
+            .chunks_exact(2)
+            .filter_map(|pair| Field::from_stored(pair[0], pair[1]))
+    }
+}
+
+/// Whether so many zero-ended names of 1 to 25 bytes stand at the start of an area.
+fn names_fit(mut area: &[u8], fields: usize) -> bool {
+    for _ in 0..fields {
+        let longest = area.len().min(MOST_NAME + 1);
+        match area[..longest].iter().position(|&byte| byte == 0) {
+            None | Some(0) => return false,
+            Some(length) => area = &area[length + 1..],
+        }
+    }
+    true
+}

@@ -1,0 +1,28 @@
+//! A second implementation of document 01, written from the paper alone.
+
+mod blocks;
+mod cells;
+mod chain;
+mod counts;
+mod fields;
+mod header;
+mod index;
+mod keys;
+mod listing;
+mod pair;
+mod refusal;
+mod scan;
+mod table;
+mod walk;
+
+pub use blocks::{Block, Blocks};
+pub use cells::{cell, Cell};
+pub use fields::{Field, Kind};
+pub use header::Header;
+pub use index::{Entry, Index};
+pub use listing::listing;
+pub use pair::pair_check;
+pub use refusal::Refusal;
+pub use scan::{scan, Place};
+pub use table::{table_check, Table};
+pub use walk::{walk, Walked};

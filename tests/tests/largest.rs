@@ -1,0 +1,99 @@
+//! The library and the model on the largest tables there can be: 32,767 blocks of 4 KB.
+
+use brittomaz_tests::generate::{tree, IndexShape, Shape, StoredField, TableImage, UsedBlock};
+use brittomaz_tests::layout::{MOST_BLOCKS, MOST_UNITS, RECORDS};
+use brittomaz_tests::{calls, codes, model};
+
+const MARKS: usize = MOST_BLOCKS as usize + 3;
+
+/// A table with one text field in the largest header and blocks.
+fn largest(width: u8, key_fields: usize, chain: Vec<UsedBlock>) -> TableImage {
+    let code = codes::TEXT;
+    TableImage {
+        shape: Shape {
+            version: 0x09,
+            units: MOST_UNITS,
+            fields: vec![StoredField { code, width }],
+            names: vec![b"only".to_vec()],
+            key_fields,
+            header_size: u16::MAX.into(),
+        },
+        chain,
+        free: Vec::new(),
+        junk: None,
+    }
+}
+
+fn assert_same_check(table: &[u8], expected: u32) {
+    let mut marks = vec![7; MARKS];
+    let mut model_marks = marks.clone();
+    assert_eq!(calls::table_check(table, &mut marks), expected);
+    let answer = model::table_check(table, &mut model_marks);
+    assert_eq!(calls::check_number(&answer), expected);
+    assert!(marks == model_marks);
+}
+
+#[test]
+fn most_records() {
+    let full = |number| UsedBlock {
+        number,
+        records: vec![b'x'; 4090],
+    };
+    let mut table = largest(1, 0, (1..=MOST_BLOCKS).rev().map(full).collect()).bytes();
+    assert_same_check(&table, 0);
+    table[RECORDS] ^= 1;
+    assert_same_check(&table, 9);
+}
+
+/// Three records in some blocks, none in others, and a full block at the end.
+fn keyed_chain() -> (Vec<UsedBlock>, u16) {
+    let mut next = 0_u16;
+    let mut block = |number| {
+        let count = match number {
+            MOST_BLOCKS => 2045,
+            _ if number % 2 == 0 => 3,
+            _ => 0,
+        };
+        let keys = next..next + count;
+        next += count;
+        UsedBlock {
+            number,
+            records: keys.flat_map(u16::to_be_bytes).collect(),
+        }
+    };
+    let chain = (1..=MOST_BLOCKS).map(&mut block).collect();
+    (chain, next)
+}
+
+#[test]
+fn farthest_place() {
+    let (chain, records) = keyed_chain();
+    let image = largest(2, 1, chain);
+    let shape = IndexShape {
+        version: 0x03,
+        units: 1,
+        header_size: 88,
+        key_length: 2,
+    };
+    let index = tree(shape, &image.first_keys()).expect("short keys");
+    let (table, index) = (image.bytes(), index.bytes());
+    let mut marks = vec![7; MARKS];
+    assert_eq!(calls::pair_check(&table, &index, &mut marks), 0);
+    assert_eq!(model::pair_check(&table, &index, &mut marks), Ok(()));
+    let last = 2044 << 32 | u64::from(MOST_BLOCKS) << 16 | 1 << 8;
+    let key = (records - 1).to_be_bytes();
+    assert_eq!(calls::scan(&table, &key, &mut marks), last);
+    assert_eq!(
+        calls::pack_scan(model::scan(&table, &key, &mut marks)),
+        last
+    );
+    for sought in [0, 1, records - 2046, records - 2045, records - 1, records] {
+        let key = sought.to_be_bytes();
+        let walked = calls::walk(&table, &index, &key);
+        assert_eq!(walked, calls::pack_walk(model::walk(&table, &index, &key)));
+        assert_eq!(
+            calls::place_of(walked),
+            calls::scan(&table, &key, &mut marks)
+        );
+    }
+}
