@@ -1,18 +1,18 @@
 -- The text of a cell, case by case; what a cell of a table gives for printing it, and how long it is. Assumes nothing.
-use Prim.Native.Nat.{ℕ, zero, suc, _+_, _-_, _≤_, _<_}
-use mathlib.Core.Path.{_≡_, refl, sym, ap, _∙_, subst}
+use Prim.Native.Nat.{ℕ, suc, _+_, _-_, _≤_, _<_}
+use mathlib.Core.Path.{_≡_, sym, ap, _∙_, subst}
 use mathlib.Core.Bool.{Bool, true, not, true≢false}
 use mathlib.Core.List.{List, [], _∷_, _++_}
 use native.Mathlib.Omega.{arith}
-use lib.Dec.{T, leb}
+use lib.Dec.{T}
 use lib.IntN.{ℤ, pos, negsuc}
 use lib.Ieee.{Float, nan, inf, fin, isNan, binary64, toBits}
 use lib.Ieee.Scale.{finite}
-use lib.ListN.{length, length-append}
+use lib.ListN.{length}
 use lib.Signed.{mag}
 use borrow.Author.Tests.{le-leb}
 use Rattle.words.specs.Order.{range}
-use Rattle.cell.specs.Values.{Content, contentOf, answerOf}
+use Rattle.cell.specs.Values.{contentOf, answerOf}
 use Rattle.cell.specs.declared.value.Value.{Value}
 use Rattle.cell.specs.declared.value.Value.the-variants as Val
 use Rattle.cell.specs.declared.value.Cell.{Cell}

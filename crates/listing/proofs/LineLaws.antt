@@ -5,13 +5,13 @@ use mathlib.Core.List.{List, [], _∷_, _++_, append-nil}
 use native.Mathlib.Omega.{arith}
 use lib.IntN.{ℤ, pos, negsuc}
 use lib.Ieee.{binary64, toBits}
-use lib.ListN.{length, take, drop, length-append, length-take}
+use lib.ListN.{length, drop, length-append, length-take}
 use borrow.Author.Tests.{le-leb}
 use Rattle.words.specs.Order.{range}
 use Rattle.header.specs.Header.{headerOf, refusedWith}
 use Rattle.header.specs.declared.Header.{Header}
 use Rattle.header.proofs.AcceptedLaws.{accepted, refused-only}
-use Rattle.cell.specs.Values.{Content, nothing, blank, short, long, date, number, logical, text, contentOf, answerOf, partOf, valuePart}
+use Rattle.cell.specs.Values.{contentOf, answerOf, partOf, valuePart}
 use Rattle.cell.specs.Reading.{blockCell, cellOf, readOf}
 use Rattle.cell.specs.declared.value.Value.{Value}
 use Rattle.cell.specs.declared.value.Value.the-variants as Val
@@ -20,7 +20,7 @@ use Rattle.cell.specs.declared.value.Cell.the-variants.{Is, Refused}
 use Rattle.cell.proofs.PlaceLaws.{ends, part-inside, part-most}
 use Rattle.cell.proofs.ReadingLaws.{cell-accepted}
 use Rattle.cell.proofs.Finite.{read-finite}
-use Rattle.listing.specs.Text.{decimal, signedText, hexText}
+use Rattle.listing.specs.Text.{decimal, signedText}
 use Rattle.listing.specs.Listing.{bar, dot, newline, cellText, cellsText, lineOf}
 use Rattle.listing.specs.Steps.{Wrote, Room, Printable, PrintableCell}
 use Rattle.listing.proofs.PutLaws.{wrote-nothing}

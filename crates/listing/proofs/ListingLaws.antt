@@ -1,14 +1,14 @@
 -- The whole listing: the first line, and then the line of each record that a cursor comes to. Assumes nothing.
 use Prim.Native.Nat.{ℕ}
-use mathlib.Core.Path.{_≡_, refl, sym, ap, _∙_, subst}
+use mathlib.Core.Path.{_≡_, refl, sym, ap}
 use mathlib.Core.Bool.{Bool, true, false, cond}
-use mathlib.Core.List.{List, [], _++_, append-nil}
+use mathlib.Core.List.{List, _++_, append-nil}
 use native.Mathlib.Omega.{arith}
 use lib.Dec.{ltb}
 use lib.ListN.{length}
 use borrow.Author.Tests.{eq-eqb, ne-eqb}
-use Rattle.header.specs.Header.{headerOf, mostBlocks}
-use Rattle.table.specs.Records.{Position, recordsOf}
+use Rattle.header.specs.Header.{mostBlocks}
+use Rattle.table.specs.Records.{Position}
 use Rattle.table.specs.Table.{tableAnswer}
 use Rattle.table.proofs.RuleLaws.{accepted-table}
 use Rattle.cursor.specs.Cursor.{startOf}

@@ -1,6 +1,6 @@
 -- Demand 3 of the packed numbers: once the pair check answers 0, the walk's number is the scan's with its index blocks read added, and
 -- neither is a refusal. Assumes nothing.
-use Prim.Native.Nat.{ℕ, _+_, _*_, _%_, _≤_}
+use Prim.Native.Nat.{ℕ, _+_, _*_, _≤_}
 use mathlib.Core.Path.{_≡_, ap, _∙_}
 use mathlib.Core.List.{List}
 use native.Mathlib.Omega.{arith}

@@ -1,5 +1,5 @@
 -- Unpacking gives each part back, and what `pack` adds up is the packing. Assumes nothing.
-use Prim.Native.Nat.{ℕ, _+_, _*_, _/_, _%_, _<_}
+use Prim.Native.Nat.{ℕ, _+_, _*_, _<_}
 use mathlib.Core.Path.{_≡_, sym, subst}
 use native.Mathlib.Omega.{arith}
 use Rattle.scan.specs.Found.{Lookup, lookupOf}

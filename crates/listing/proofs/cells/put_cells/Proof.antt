@@ -1,7 +1,7 @@
 -- `put_cells` meets its contract: after i turns the first i cells are put. Assumes nothing.
 use mathlib.Core.Path.{_≡_, refl, ap, _∙_}
-use mathlib.Core.List.{List, _∷_, _++_}
-use Prim.Native.Nat.{ℕ, suc, _+_, _-_, _≤_}
+use mathlib.Core.List.{_∷_, _++_}
+use Prim.Native.Nat.{suc, _+_, _-_, _≤_}
 use native.Mathlib.Omega.{arith}
 use lib.ListN.{length}
 use borrow.Author.Needs.{needs}
@@ -49,8 +49,7 @@ put-cell-requires : tie.Need-put-cell-requires Inv-loop μ-loop
 put-cell-requires c κs =
     let v = c .before .before .before .before .before .before .before .args in
     let q = c .before .before .before .loop in
-    let a = c .before .before .before .before .before .before .before .pre .2 in
-    let k : suc (q .field) ≡ q .field + 1 = omega arith in (
+    let a = c .before .before .before .before .before .before .before .pre .2 in (
       room-then (cellsText (v .table .now) (v .block) (v .place) (q .field)) _
           (room-as (one-more c) (room-few (v .table .now) (v .block) (v .place) (q .field + 1) (v .h .fields) (search needs) (c .before .before .before .before .before .before .before .pre .0)))
           (q .inv .2),
