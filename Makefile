@@ -4,6 +4,7 @@ VERSION = 1.0
 PREFIX ?= /usr/local
 LIBDIR ?= $(PREFIX)/lib
 INCLUDEDIR ?= $(PREFIX)/include
+DOCDIR ?= $(PREFIX)/share/doc/paradox
 CFLAGS ?= -O2 -std=c99 -Wall -Wextra -Wpedantic -Wconversion -Wshadow
 
 # Where libparadox.a is. In its default place it is built from the sources; in any other it is used as it is.
@@ -24,13 +25,13 @@ RUST = PARADOX_LIB=$(abspath $(PARADOX_LIB)) CARGO_TARGET_DIR=target/tests \
 
 define HELP
 make list FILE=samples/parts.db   print a table of at most 65,536 bytes, or why it is refused
-make test                         prove everything from nothing and run every test, some 15 to 20 minutes
+make test                         prove everything from nothing and run every test, which takes a good while
 make lib                          prove and build target/staticlib/libparadox.a
 make example                      build the C example, target/counter
 make samples                      write the files of samples/ anew
-make soak COUNT=.. SEED=..        compare the library and the lister with the Rust model on many files
+make soak COUNT=.. SEED=..        compare the library and the lister with the Rust model on many files, 30,000 or more
 make bench                        measure the four calls beside the Rust model
-make install PREFIX=..            install archive, header and pkg-config file (DESTDIR is honoured)
+make install PREFIX=..            install archive, header, manual and pkg-config file (DESTDIR is honoured)
 make uninstall PREFIX=..          remove them
 make clean                        remove target/, proofs included
 endef
@@ -54,10 +55,14 @@ need = command -v $(1) >/dev/null || { echo 'There is no $(1) on the PATH: $(2) 
 NEED_RT = $(call need,rt,the Rattle kit)
 NEED_CARGO = $(call need,cargo,Rust)
 
-.PHONY: help list test lib example samples soak bench install uninstall clean
+.PHONY: help list test lib example samples soak bench install uninstall clean cargo
 
 help:
 	@printf '%s\n' "$$HELP"
+
+# Asked for before anything is proved.
+cargo:
+	@$(NEED_CARGO)
 
 list:
 	@test -n "$(FILE)" || { echo 'Which table? Say make list FILE=samples/parts.db' >&2; exit 1; }
@@ -67,36 +72,34 @@ list:
 
 test:
 	@$(NEED_RT)
-	@echo 'Proving everything from nothing and running every test takes some 15 to 20 minutes.'
+	@echo 'Proving everything from nothing and running every test takes a good while.'
 	@bash .ci/run
 
 lib: $(BUILT_ARCHIVE)
 
 example: target/counter
 
-samples: $(ARCHIVE)
-	@$(NEED_CARGO)
+samples: cargo $(ARCHIVE)
 	@mkdir -p samples
 	$(RUST) samples -- samples
 
-soak: $(ARCHIVE) $(LISTER)
-	@$(NEED_CARGO)
+soak: cargo $(ARCHIVE) $(LISTER)
 	$(RUST) differential -- --cases $(COUNT) --seed $(SEED) --lister $(LISTER)
 
-bench: $(ARCHIVE)
-	@$(NEED_CARGO)
+bench: cargo $(ARCHIVE)
 	$(RUST) bench
 
 install: $(ARCHIVE)
-	install -d $(DESTDIR)$(abspath $(LIBDIR))/pkgconfig $(DESTDIR)$(abspath $(INCLUDEDIR))
+	install -d $(DESTDIR)$(abspath $(LIBDIR))/pkgconfig $(DESTDIR)$(abspath $(INCLUDEDIR)) $(DESTDIR)$(abspath $(DOCDIR))
 	install -m 644 $(ARCHIVE) $(DESTDIR)$(abspath $(LIBDIR))/libparadox.a
 	install -m 644 include/paradox.h $(DESTDIR)$(abspath $(INCLUDEDIR))/paradox.h
+	install -m 644 docs/MANUAL.md $(DESTDIR)$(abspath $(DOCDIR))/MANUAL.md
 	printf '%s\n' "$$PKG_CONFIG_FILE" >$(DESTDIR)$(abspath $(LIBDIR))/pkgconfig/paradox.pc
 	chmod 644 $(DESTDIR)$(abspath $(LIBDIR))/pkgconfig/paradox.pc
 
 uninstall:
 	rm -f $(DESTDIR)$(abspath $(LIBDIR))/libparadox.a $(DESTDIR)$(abspath $(INCLUDEDIR))/paradox.h
-	rm -f $(DESTDIR)$(abspath $(LIBDIR))/pkgconfig/paradox.pc
+	rm -f $(DESTDIR)$(abspath $(LIBDIR))/pkgconfig/paradox.pc $(DESTDIR)$(abspath $(DOCDIR))/MANUAL.md
 
 clean:
 	rm -rf target
@@ -106,7 +109,7 @@ $(BUILT_ARCHIVE): $(SOURCES)
 	@$(NEED_RT)
 	@echo 'Proving the library before it is built takes some minutes; what is proved already is not proved again.' >&2
 	rt staticlib paradox >&2
-	@touch $@
+	@touch -c $@
 
 ifneq ($(ARCHIVE),$(BUILT_ARCHIVE))
 $(ARCHIVE):
@@ -117,7 +120,7 @@ $(LISTER): $(SOURCES)
 	@$(NEED_RT)
 	@echo 'Proving the lister before it is built takes some minutes; what is proved already is not proved again.' >&2
 	rt check lister >&2
-	@touch $@
+	@touch -c $@
 
 target/counter: examples/counter.c include/paradox.h $(ARCHIVE)
 	@mkdir -p target

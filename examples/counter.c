@@ -136,18 +136,23 @@ static int hex_key(const char *digits, struct bytes *key)
     return strlen(digits) % 2 == 0;
 }
 
-/* The width of the first field of an accepted table. The field area holds a type byte and a width byte for each field. */
-static size_t first_width(const uint8_t *table)
+/* The type and the width of the first field of an accepted table, at the front of its field area. */
+static const uint8_t *first_field(const uint8_t *table)
 {
-    size_t fields = table[0x39] <= 0x04 ? 0x58 : 0x78;
-    return table[fields + 1];
+    return table + (table[0x39] <= 0x04 ? 0x58 : 0x78);
+}
+
+/* Whether the key of an accepted table is one text field. */
+static int is_text_key(const uint8_t *table)
+{
+    return paradox_word(table, 0x23) == 1 && first_field(table)[0] == 0x01;
 }
 
 /* The key's stored bytes, for an accepted table. Answers 0, with a message, where there is no such key. */
 static int make_key(const char *text, const uint8_t *table, struct bytes *key)
 {
     size_t len = strlen(text);
-    size_t width = first_width(table);
+    size_t width = first_field(table)[1];
     size_t room = len > width ? len : width;
     key->at = calloc(room, 1);
     if (key->at == NULL) {
@@ -160,6 +165,10 @@ static int make_key(const char *text, const uint8_t *table, struct bytes *key)
             fprintf(stderr, "%s: not pairs of hexadecimal digits\n", text);
         }
         return good;
+    }
+    if (!is_text_key(table)) {
+        fprintf(stderr, "%s: the key is not one text field; give its bytes, as hex:..\n", text);
+        return 0;
     }
     memcpy(key->at, text, len);
     key->len = room; /* text that is too long stays as it is: the lookup refuses it */

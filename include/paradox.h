@@ -8,7 +8,7 @@
  * - Nothing is kept after the call: no state, no heap. Calls may run at the same time in several threads, as long as each has
  *   a mark buffer of its own and nobody writes to a buffer that a call is reading.
  *
- * docs/MANUAL.md says of each refusal when it comes and what to do about it.
+ * The manual (docs/MANUAL.md, installed as share/doc/paradox/MANUAL.md) says of each refusal when it comes and what to do about it.
  */
 #ifndef PARADOX_H
 #define PARADOX_H
@@ -66,8 +66,9 @@ uint32_t paradox_table_check(const uint8_t *table, size_t table_len, uint8_t *ma
 
 /*
  * Checks that a table keeps every rule and that the index is its index. Answers PARADOX_ACCEPTED or a refusal: the table's,
- * 13 for a table without key fields, then the index's. Once it accepts, paradox_walk and paradox_scan give the same answer for
- * every key of the table's key length, and neither refuses.
+ * 13 for a table without key fields, then the index's. Once it accepts, for every key of the table's key length paradox_walk and
+ * paradox_scan (with a mark for each block) find the same block and place, or both say absent, and neither refuses. The two numbers are
+ * not equal: the walk's has the index blocks read in it.
  *
  * The mark buffer holds what paradox_table_check leaves; with 13 and 21 to 27 that is the marks of an accepted table.
  */
@@ -85,8 +86,9 @@ uint64_t paradox_scan(const uint8_t *table, size_t table_len, const uint8_t *key
                       uint8_t *marks, size_t marks_len);
 
 /*
- * Looks a key up by a walk down the index. Answers a packed number, see below. It judges both headers, one index block a
- * level and one data block, and nothing else: ask paradox_pair_check first after any change of the files.
+ * Looks a key up by a walk down the index. Answers a packed number, see below. `key` is as for paradox_scan, and so is 13. It judges
+ * both headers, one index block a level and one data block, and nothing else: ask paradox_pair_check first after any change of the
+ * files.
  *
  * No lent memory is written.
  */

@@ -5,8 +5,10 @@ use libc::STDIN_FILENO;
 use libc::STDOUT_FILENO;
 
 // One byte more than the longest table that is listed, so that a longer one is seen.
+const ROOM: usize = 65537;
+
 fn main() {
-    let mut space = [0u8; 65537];
+    let mut space = [0u8; ROOM];
     let n = io::read_full(STDIN_FILENO, &mut space);
     list(&space[..n]);
 }

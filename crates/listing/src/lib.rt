@@ -18,6 +18,9 @@ use table::check_blocks;
 // The longest table that is listed, in bytes.
 pub const MOST_BYTES: usize = 65536;
 
+// A mark for each block of any table.
+const MARKS: usize = 32767;
+
 // The first line: its length, and how many records' lines come after it; none with a refusal.
 pub struct HeadLine {
     pub len: usize,
@@ -37,7 +40,7 @@ pub fn head(table: &[u8], out: &mut [u8; 65536]) -> HeadLine
     if h.refusal != refusal::ACCEPTED {
         return refused(h.refusal, out);
     }
-    let mut marks = [0u8; 32767];
+    let mut marks = [0u8; MARKS];
     let answer = check_blocks(table, h, &mut marks);
     if answer != refusal::ACCEPTED {
         return refused(answer, out);
@@ -63,13 +66,13 @@ fn refused(number: u8, out: &mut [u8; 65536]) -> HeadLine
 fn put_head(out: &mut [u8; 65536], fields: u16, keys: u16, records: u32) -> usize
     ensures { λ r. ⌜ (length (now (out .entry)) ≡ 65536) × Wrote (now (out .entry)) 0 (headText fields keys records) (now (out .exit)) r ⌝ }
 {
-    let a = put_bytes(out, 0, b"fields ");
-    let b = put_decimal(out, a, fields as u64);
-    let c = put_bytes(out, b, b" key ");
-    let d = put_decimal(out, c, keys as u64);
-    let e = put_bytes(out, d, b" records ");
-    let f = put_decimal(out, e, records as u64);
-    put_byte(out, f, b'\n')
+    let fields_at = put_bytes(out, 0, b"fields ");
+    let fields_end = put_decimal(out, fields_at, fields as u64);
+    let keys_at = put_bytes(out, fields_end, b" key ");
+    let keys_end = put_decimal(out, keys_at, keys as u64);
+    let records_at = put_bytes(out, keys_end, b" records ");
+    let end = put_decimal(out, records_at, records as u64);
+    put_byte(out, end, b'\n')
 }
 
 // Puts the line of the record at a block and a place (from 0) of any bytes to the front of a buffer: block.place, then
@@ -79,12 +82,12 @@ pub fn line(table: &[u8], block: u16, place: u16, out: &mut [u8; 65536]) -> usiz
     ensures { λ r. ⌜ (r ≡ length (lineOf (now (table .entry)) block place)) × (now (out .exit) ≡ lineOf (now (table .entry)) block place ++ drop (length (lineOf (now (table .entry)) block place)) (now (out .entry))) ⌝ }
 {
     let h = header::read(table);
-    let a = put_decimal(out, 0, block as u64);
-    let b = put_byte(out, a, b'.');
-    let c = put_decimal(out, b, place as u64);
+    let block_end = put_decimal(out, 0, block as u64);
+    let place_at = put_byte(out, block_end, b'.');
+    let cells_at = put_decimal(out, place_at, place as u64);
     if h.refusal != refusal::ACCEPTED {
-        return put_byte(out, c, b'\n');
+        return put_byte(out, cells_at, b'\n');
     }
-    let end = cells::put_cells(out, c, table, h, block as usize, place as usize);
+    let end = cells::put_cells(out, cells_at, table, h, block as usize, place as usize);
     put_byte(out, end, b'\n')
 }

@@ -1,4 +1,4 @@
-//! A second implementation of document 01, written from the paper alone.
+//! A second implementation of document 01, written from the paper and from how its open places are read.
 
 mod blocks;
 mod cells;
