@@ -53,6 +53,8 @@ export HELP PKG_CONFIG_FILE
 # $(call need,PROGRAM,WHAT IT BELONGS TO)
 need = command -v $(1) >/dev/null || { echo 'There is no $(1) on the PATH: $(2) is needed for this.' >&2; exit 1; }
 NEED_RT = $(call need,rt,the Rattle kit)
+# $(call quietly,COMMAND): what it says is kept in target/rt.txt, and shown where it fails.
+quietly = mkdir -p target && { $(1) >target/rt.txt 2>&1 || { cat target/rt.txt >&2; exit 1; }; }
 NEED_CARGO = $(call need,cargo,Rust)
 
 .PHONY: help list test lib example samples soak bench install uninstall clean cargo
@@ -108,7 +110,7 @@ clean:
 $(BUILT_ARCHIVE): $(SOURCES)
 	@$(NEED_RT)
 	@echo 'Proving the library before it is built takes some minutes; what is proved already is not proved again.' >&2
-	rt staticlib paradox >&2
+	@$(call quietly,rt staticlib paradox)
 	@touch -c $@
 
 ifneq ($(ARCHIVE),$(BUILT_ARCHIVE))
@@ -119,7 +121,7 @@ endif
 $(LISTER): $(SOURCES)
 	@$(NEED_RT)
 	@echo 'Proving the lister before it is built takes some minutes; what is proved already is not proved again.' >&2
-	rt check lister >&2
+	@$(call quietly,rt check lister)
 	@touch -c $@
 
 target/counter: examples/counter.c include/paradox.h $(ARCHIVE)
