@@ -161,6 +161,10 @@ fn names() {
         0xf5,
         0,
     );
+}
+
+// Rule 7: names and the header's end.
+fn header_ends() {
     change_word(
         b"names begin at the header's end",
         late(),
@@ -188,4 +192,5 @@ fn main() {
     lengths();
     pairs();
     names();
+    header_ends();
 }
