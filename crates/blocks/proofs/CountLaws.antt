@@ -66,17 +66,17 @@ count-most block size (pos m) n h e = go (eqb (m % size) 0 && leb (m + size) (bl
 
 -- ---- a record that is counted is inside its block
 module _ (t : List ℕ) (g : Shape) (s : Sound t g) (b n : ℕ) (e : countIn t g b ≡ Records n) where
-  records-fit : 6 + n * g .size ≤ g .block
+  records-fit : 6 + n * g .«record_size» ≤ g .«block_size»
   unfolding countIn
-  records-fit = count-most (g .block) (g .size) (signed 32768 (word t (blockAt g b + 4))) n (omega (arith, s .size-most)) e
+  records-fit = count-most (g .«block_size») (g .«record_size») (signed 32768 (word t (blockAt g b + 4))) n (omega (arith, s .size-most)) e
 
-  pub record-inside : (i : ℕ) → i < n → recordAt g b i + g .size ≤ blockAt g b + g .block
-  record-inside i l = omega (arith, records-fit, mul-le-mul-right (g .size) l)
+  pub record-inside : (i : ℕ) → i < n → recordAt g b i + g .«record_size» ≤ blockAt g b + g .«block_size»
+  record-inside i l = omega (arith, records-fit, mul-le-mul-right (g .«record_size») l)
 
   -- and so inside the file
-  pub record-in-file : 1 ≤ b → b ≤ g .blocks → (i : ℕ) → i < n → recordAt g b i + g .size ≤ length t
+  pub record-in-file : 1 ≤ b → b ≤ g .blocks → (i : ℕ) → i < n → recordAt g b i + g .«record_size» ≤ length t
   record-in-file low high i l = omega (arith, record-inside i l, block-inside t g s b low high)
 
   -- a block counts no more records than it has bytes
-  pub count-few : n ≤ g .block
+  pub count-few : n ≤ g .«block_size»
   count-few = omega (arith, records-fit, mul-le-mul-left n (s .size-least))

@@ -22,7 +22,7 @@ unfolding shapeOf
 sound t h a = record { whole = a .whole; size-least = a .size-least; size-most = a .size-most }
 
 -- a table's records have the header's record size
-pub shape-size : (h : Header) → shapeOf h .size ≡ h .size
+pub shape-size : (h : Header) → shapeOf h .«record_size» ≡ h .«record_size»
 unfolding shapeOf
 shape-size h = refl
 
@@ -58,8 +58,8 @@ pub words-product : (a b : ℕ) → a < 65536 → b < 65536 → a * b ≤ 429483
 words-product a b h k = mul-le-mul {n₁ = a} {m₁ = b} {n₂ = 65535} {m₂ = 65535} (omega arith) (omega arith)
 
 module _ (t : List ℕ) (g : Shape) (s : Sound t g) (b : ℕ) (low : 1 ≤ b) (high : b ≤ g .blocks) where
-  pub block-inside : blockAt g b + g .block ≤ length t
-  block-inside = omega (arith, s .whole, blocks-fit (g .block) b (g .blocks) low high)
+  pub block-inside : blockAt g b + g .«block_size» ≤ length t
+  block-inside = omega (arith, s .whole, blocks-fit (g .«block_size») b (g .blocks) low high)
 
   -- and so is its head
   pub head-inside : blockAt g b + blockHead ≤ length t

@@ -24,4 +24,4 @@ lastRecord = 4
 
 -- 9: the count of block b
 unfoldable pub countIn : List ℕ → Shape → ℕ → Count
-countIn t g b = countOf (g .block) (g .size) (signed (half 2) (word t (blockAt g b + lastRecord)))
+countIn t g b = countOf (g .«block_size») (g .«record_size») (signed (half 2) (word t (blockAt g b + lastRecord)))

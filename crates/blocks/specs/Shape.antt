@@ -11,7 +11,7 @@ use Rattle.blocks.specs.declared.Shape.{Shape}
 
 -- the shape of a table, by its header
 unfoldable pub shapeOf : Header → Shape
-shapeOf h = record { header = h .header; block = h .block; blocks = h .blocks; size = h .size }
+shapeOf h = record { «header_size» = h .«header_size»; «block_size» = h .«block_size»; blocks = h .blocks; «record_size» = h .«record_size» }
 
 -- b is the number of one of n blocks
 unfoldable pub inFile : ℕ → ℕ → Bool
@@ -23,14 +23,14 @@ hasBlock g b = inFile (g .blocks) b
 
 -- where block b begins
 abbrev pub blockAt : Shape → ℕ → ℕ
-blockAt g b = g .header + (b - 1) * g .block
+blockAt g b = g .«header_size» + (b - 1) * g .«block_size»
 
 -- where the record at place i of block b begins: records follow the block's head
 abbrev pub recordAt : Shape → ℕ → ℕ → ℕ
-recordAt g b i = blockAt g b + blockHead + i * g .size
+recordAt g b i = blockAt g b + blockHead + i * g .«record_size»
 
 -- what the rules for lengths and sizes give: the blocks fill the file behind its header, and a block has room for a record
 pub record Sound (t : List ℕ) (g : Shape) : Type 0 where
-  pub whole : length t ≡ g .header + g .blocks * g .block
-  pub size-least : 1 ≤ g .size
-  pub size-most : g .size + blockHead ≤ g .block
+  pub whole : length t ≡ g .«header_size» + g .blocks * g .«block_size»
+  pub size-least : 1 ≤ g .«record_size»
+  pub size-most : g .«record_size» + blockHead ≤ g .«block_size»

@@ -52,5 +52,5 @@ pub fn count_in(file: &[u8], shape: Shape, block: usize) -> Count
     ensures { λ r. ⌜ r ≡ countIn (now (file .entry)) shape block ⌝ }
 {
     let last = words::word(file, block_at(shape, block) + LAST_RECORD);
-    count_of(last, shape.size, shape.block)
+    count_of(last, shape.record_size, shape.block_size)
 }

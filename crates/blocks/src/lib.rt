@@ -15,13 +15,10 @@ const BLOCK_HEAD: usize = header::BLOCK_HEAD as usize;
 
 // The shape of a file of blocks. Sizes are in bytes.
 pub struct Shape {
-    // The header's size.
-    pub header: u16,
-    // A block's size.
-    pub block: u16,
+    pub header_size: u16,
+    pub block_size: u16,
     pub blocks: u16,
-    // A record's size.
-    pub size: u16,
+    pub record_size: u16,
 }
 
 // The shape of a table.
@@ -29,10 +26,10 @@ pub fn shape_of(h: Header) -> Shape
     ensures { λ r. ⌜ r ≡ shapeOf h ⌝ }
 {
     Shape {
-        header: h.header,
-        block: h.block,
+        header_size: h.header_size,
+        block_size: h.block_size,
         blocks: h.blocks,
-        size: h.size,
+        record_size: h.record_size,
     }
 }
 
@@ -48,7 +45,7 @@ pub fn block_at(shape: Shape, block: usize) -> usize
     requires { ⌜ (1 ≤ block) × (block ≤ shape .blocks) ⌝ }
     ensures { λ r. ⌜ r ≡ blockAt shape block ⌝ }
 {
-    shape.header as usize + (block - 1) * shape.block as usize
+    shape.header_size as usize + (block - 1) * shape.block_size as usize
 }
 
 // Where the record at a place of a block begins; places count from 0. A helper: its caller has found the
@@ -57,5 +54,5 @@ pub fn record_at(shape: Shape, block: usize, place: usize) -> usize
     requires { ⌜ (1 ≤ block) × (block ≤ shape .blocks) × (place < 65536) ⌝ }
     ensures { λ r. ⌜ r ≡ recordAt shape block place ⌝ }
 {
-    block_at(shape, block) + BLOCK_HEAD + place * shape.size as usize
+    block_at(shape, block) + BLOCK_HEAD + place * shape.record_size as usize
 }

@@ -33,17 +33,17 @@ module _ (t : List ℕ) where
 
   module _ (w : Sound t g) where
     -- a place is below the block's size
-    place-below : (c : Cursor) → OnRecord t g c → c .place < g .block
+    place-below : (c : Cursor) → OnRecord t g c → c .place < g .«block_size»
     place-below c r = omega (arith, r .there, count-few t g w (c .block) (r .count) (r .counted))
 
     -- from a cursor on a record, where stepping ends after more moves than its own
     in-block : (more : ℕ) → ((d : Cursor) → OnRecord t g d → more ≤ d .moves → Ends t (Record d))
-        → (left : ℕ) (c : Cursor) → OnRecord t g c → suc (c .moves) ≡ more → g .block - c .place ≤ left → Ends t (Record c)
+        → (left : ℕ) (c : Cursor) → OnRecord t g c → suc (c .moves) ≡ more → g .«block_size» - c .place ≤ left → Ends t (Record c)
     in-block more ih zero c r e l = absurd (omega (arith, place-below c r))
     in-block more ih (suc left) c r e l =
         later (answer-ends c (stepOf t c) (step-answers t c) (λ d s q. go d q (step-after t c d s) (in-block more ih left d q)))
       where
-        go : (d : Cursor) → OnRecord t g d → After c d → (suc (d .moves) ≡ more → g .block - d .place ≤ left → Ends t (Record d)) → Ends t (Record d)
+        go : (d : Cursor) → OnRecord t g d → After c d → (suc (d .moves) ≡ more → g .«block_size» - d .place ≤ left → Ends t (Record d)) → Ends t (Record d)
         go d q (next-place b m p) stays = stays (omega arith) (omega (arith, place-below c r))
         go d q (more-moves m) stays = ih d q (omega arith)
 
@@ -51,7 +51,7 @@ module _ (t : List ℕ) where
     by-moves : (left : ℕ) (c : Cursor) → OnRecord t g c → g .blocks - c .moves ≤ left → Ends t (Record c)
     by-moves zero c r l = absurd (omega (arith, r .few-moves))
     by-moves (suc left) c r l =
-        in-block (suc (c .moves)) (λ d q m. by-moves left d q (omega (arith, r .few-moves, q .few-moves))) (g .block - c .place) c r refl (omega arith)
+        in-block (suc (c .moves)) (λ d q m. by-moves left d q (omega (arith, r .few-moves, q .few-moves))) (g .«block_size» - c .place) c r refl (omega arith)
 
     record-ends : (d : Cursor) → OnRecord t g d → Ends t (Record d)
     record-ends d r = by-moves (g .blocks - d .moves) d r (omega arith)

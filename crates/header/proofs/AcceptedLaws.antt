@@ -84,7 +84,7 @@ module _ (t : List ℕ) (e : headerOf t .refusal ≡ 0) where
       let l = r .limits in
       let f = r .fields in
       let known : (i : ℕ) → i < s .fields → 1 ≤ widthAt t area i = λ i k. known-width (byte t (area + 2 * i)) (widthAt t area i) (f .pairs i k) in
-      let most : widthSum t area (s .keys) ≤ widthSum t area (s .fields) = sum-mono t area (s .keys) (s .fields) (l .keys-most) in
+      let most : widthSum t area (s .«key_fields») ≤ widthSum t area (s .fields) = sum-mono t area (s .«key_fields») (s .fields) (l .keys-most) in
       record {
         same = sym numbers;
         whole = r .whole;
@@ -98,13 +98,13 @@ module _ (t : List ℕ) (e : headerOf t .refusal ≡ 0) where
         fields-least = l .fields-least;
         fields-most = l .fields-most;
         keys-most = l .keys-most;
-        area-inside = omega (arith, names-inside t (s .header) (s .fields) (namesAt s) (l .fields-least) (f .names));
+        area-inside = omega (arith, names-inside t (s .«header_size») (s .fields) (namesAt s) (l .fields-least) (f .names));
         offsets-length = offsets-length t area (s .fields);
         offset = λ i k. offset-at t area (s .fields) i (l .fields-most) k;
         widths = f .widths;
         key-length = refl;
         key-most = omega (arith, most, f .widths);
-        key-least = λ k. sum-some t area (s .keys) k (λ i j. known i (omega (arith, l .keys-most)));
+        key-least = λ k. sum-some t area (s .«key_fields») k (λ i j. known i (omega (arith, l .keys-most)));
         pairs = f .pairs;
       }
 

@@ -23,29 +23,29 @@ module _ (t : List ℕ) (s : Stored) where
   unfolding fieldsAnswer
   fields-broken e = rw e
 
-  pub pairs-broken : each (pairRight t (areaAt (s .version)) (s .keys)) (s .fields) ≡ false → fieldsRight t s ≡ false
+  pub pairs-broken : each (pairRight t (areaAt (s .version)) (s .«key_fields»)) (s .fields) ≡ false → fieldsRight t s ≡ false
   unfolding fieldsRight
   pairs-broken e = rw e
 
-  pub widths-broken : (widthSum t (areaAt (s .version)) (s .fields) ≡ s .size → ⊥) → fieldsRight t s ≡ false
+  pub widths-broken : (widthSum t (areaAt (s .version)) (s .fields) ≡ s .«record_size» → ⊥) → fieldsRight t s ≡ false
   unfolding fieldsRight
-  widths-broken h = and-second (each (pairRight t (areaAt (s .version)) (s .keys)) (s .fields)) _ (namesFit t (s .header) (s .fields) (namesAt s)) (ne-eqb (widthSum t (areaAt (s .version)) (s .fields)) (s .size) h)
+  widths-broken h = and-second (each (pairRight t (areaAt (s .version)) (s .«key_fields»)) (s .fields)) _ (namesFit t (s .«header_size») (s .fields) (namesAt s)) (ne-eqb (widthSum t (areaAt (s .version)) (s .fields)) (s .«record_size») h)
 
-  pub names-unfit : namesFit t (s .header) (s .fields) (namesAt s) ≡ false → fieldsRight t s ≡ false
+  pub names-unfit : namesFit t (s .«header_size») (s .fields) (namesAt s) ≡ false → fieldsRight t s ≡ false
   unfolding fieldsRight
-  names-unfit e = and-third (each (pairRight t (areaAt (s .version)) (s .keys)) (s .fields)) (eqb (widthSum t (areaAt (s .version)) (s .fields)) (s .size)) _ e
+  names-unfit e = and-third (each (pairRight t (areaAt (s .version)) (s .«key_fields»)) (s .fields)) (eqb (widthSum t (areaAt (s .version)) (s .fields)) (s .«record_size»)) _ e
 
-  pub no-room : 1 ≤ s .fields → s .header ≤ namesAt s → fieldsRight t s ≡ false
-  no-room l h = names-unfit (names-outside t (s .header) (s .fields) (namesAt s) l h)
+  pub no-room : 1 ≤ s .fields → s .«header_size» ≤ namesAt s → fieldsRight t s ≡ false
+  no-room l h = names-unfit (names-outside t (s .«header_size») (s .fields) (namesAt s) l h)
 
-  pub fields-kept : (offsets : List ℕ) → s .fields ≤ 255 → s .keys ≤ s .fields → offsets ≡ offsetsOf t (areaAt (s .version)) (s .fields) →
-      each (pairRight t (areaAt (s .version)) (s .keys)) (s .fields) ≡ true →
-      widthSum t (areaAt (s .version)) (s .fields) ≡ s .size →
-      namesFit t (s .header) (s .fields) (namesAt s) ≡ true →
-      fieldsAnswer t s ≡ acceptedWith s (getD offsets (s .keys) 0) offsets
+  pub fields-kept : (offsets : List ℕ) → s .fields ≤ 255 → s .«key_fields» ≤ s .fields → offsets ≡ offsetsOf t (areaAt (s .version)) (s .fields) →
+      each (pairRight t (areaAt (s .version)) (s .«key_fields»)) (s .fields) ≡ true →
+      widthSum t (areaAt (s .version)) (s .fields) ≡ s .«record_size» →
+      namesFit t (s .«header_size») (s .fields) (namesAt s) ≡ true →
+      fieldsAnswer t s ≡ acceptedWith s (getD offsets (s .«key_fields») 0) offsets
   unfolding fieldsAnswer fieldsRight acceptedOf
   fields-kept offsets m k o a b d =
-      rw (a, eq-eqb (widthSum t (areaAt (s .version)) (s .fields)) (s .size) b, d, o, offset-at t (areaAt (s .version)) (s .fields) (s .keys) m k)
+      rw (a, eq-eqb (widthSum t (areaAt (s .version)) (s .fields)) (s .«record_size») b, d, o, offset-at t (areaAt (s .version)) (s .fields) (s .«key_fields») m k)
 
 -- ---- the rules in their order: each law takes the rules before it as kept
 
@@ -79,11 +79,11 @@ module _ (t : List ℕ) where
           broken-5 e = answered 5 (rw (k1, k2, k3, k4, e))
 
           module _ (k5 : limitsKept (storedOf t) ≡ true) where
-            pub broken-6 : lengthRight (length t) (storedOf t .header) (storedOf t .blocks) (storedOf t .units) ≡ false → headerOf t ≡ refusedWith 6
+            pub broken-6 : lengthRight (length t) (storedOf t .«header_size») (storedOf t .blocks) (storedOf t .units) ≡ false → headerOf t ≡ refusedWith 6
             unfolding headerAnswer answerWith
             broken-6 e = answered 6 (rw (k1, k2, k3, k4, k5, e))
 
-            module _ (k6 : lengthRight (length t) (storedOf t .header) (storedOf t .blocks) (storedOf t .units) ≡ true) where
+            module _ (k6 : lengthRight (length t) (storedOf t .«header_size») (storedOf t .blocks) (storedOf t .units) ≡ true) where
               pub last-rule : headerOf t ≡ fieldsAnswer t (storedOf t)
               unfolding headerAnswer answerWith fieldsAnswer
               last-rule = go (fieldsRight t (storedOf t)) refl

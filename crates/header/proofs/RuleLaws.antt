@@ -44,30 +44,30 @@ unencrypted-takes t at h = each-takes (λ (k : ℕ). eqb (byte t (at + k)) 0) 4 
 -- ---- 5
 
 -- byte 04 and the sort byte, with key fields and without
-keyed-gives : (s : Stored) → 1 ≤ s .keys → keyedRight s ≡ true → (s .kind ≡ 0) × (s .sort ≡ 0)
+keyed-gives : (s : Stored) → 1 ≤ s .«key_fields» → keyedRight s ≡ true → (s .kind ≡ 0) × (s .sort ≡ 0)
 unfolding keyedRight
 keyed-gives s l e =
-    let p = both (rw (le-leb 1 (s .keys) l) at e) in
+    let p = both (rw (le-leb 1 (s .«key_fields») l) at e) in
     (eqb-true (s .kind) 0 (p .0), eqb-true (s .sort) 0 (p .1))
 
-unkeyed-gives : (s : Stored) → s .keys < 1 → keyedRight s ≡ true → s .kind ≡ 0 → ⊥
+unkeyed-gives : (s : Stored) → s .«key_fields» < 1 → keyedRight s ≡ true → s .kind ≡ 0 → ⊥
 unfolding keyedRight
-unkeyed-gives s l e = eqb-false (s .kind) 0 (not-true (eqb (s .kind) 0) (rw (lt-leb 1 (s .keys) l) at e))
+unkeyed-gives s l e = eqb-false (s .kind) 0 (not-true (eqb (s .kind) 0) (rw (lt-leb 1 (s .«key_fields») l) at e))
 
-keyed-by-byte : (s : Stored) → keyedRight s ≡ true → s .kind ≡ 0 → 1 ≤ s .keys
-keyed-by-byte s e z = go (leb 1 (s .keys)) refl
+keyed-by-byte : (s : Stored) → keyedRight s ≡ true → s .kind ≡ 0 → 1 ≤ s .«key_fields»
+keyed-by-byte s e z = go (leb 1 (s .«key_fields»)) refl
   where
-    go : (b : Bool) → leb 1 (s .keys) ≡ b → 1 ≤ s .keys
-    go true f = leb-true 1 (s .keys) f
-    go false f = absurd (unkeyed-gives s (leb-false 1 (s .keys) f) e z)
+    go : (b : Bool) → leb 1 (s .«key_fields») ≡ b → 1 ≤ s .«key_fields»
+    go true f = leb-true 1 (s .«key_fields») f
+    go false f = absurd (unkeyed-gives s (leb-false 1 (s .«key_fields») f) e z)
 
 keyed-takes : (s : Stored) → Limits s → keyedRight s ≡ true
 unfolding keyedRight
-keyed-takes s l = go (leb 1 (s .keys)) refl
+keyed-takes s l = go (leb 1 (s .«key_fields»)) refl
   where
-    go : (b : Bool) → leb 1 (s .keys) ≡ b → cond b (eqb (s .kind) 0 && eqb (s .sort) 0) (not (eqb (s .kind) 0)) ≡ true
-    go true f = let k = leb-true 1 (s .keys) f in join (eq-eqb (s .kind) 0 (l .byte-by-keyed k)) (eq-eqb (s .sort) 0 (l .plain-order k))
-    go false f = rw (ne-eqb (s .kind) 0 (λ z. absurd (omega (arith, l .keyed-by-byte z, leb-false 1 (s .keys) f))))
+    go : (b : Bool) → leb 1 (s .«key_fields») ≡ b → cond b (eqb (s .kind) 0 && eqb (s .sort) 0) (not (eqb (s .kind) 0)) ≡ true
+    go true f = let k = leb-true 1 (s .«key_fields») f in join (eq-eqb (s .kind) 0 (l .byte-by-keyed k)) (eq-eqb (s .sort) 0 (l .plain-order k))
+    go false f = rw (ne-eqb (s .kind) 0 (λ z. absurd (omega (arith, l .keyed-by-byte z, leb-false 1 (s .«key_fields») f))))
 
 pub limits-give : (s : Stored) → limitsKept s ≡ true → Limits s
 unfolding limitsKept
@@ -85,13 +85,13 @@ limits-give s e =
     record {
       units-least = leb-true 1 (s .units) (p1 .0);
       units-most = leb-true (s .units) 4 (p1 .1);
-      size-least = leb-true 1 (s .size) (p2 .1);
-      size-most = leb-true (s .size + 6) (blockSize s) (p3 .1);
-      header-least = leb-true 120 (s .header) (p4 .1);
+      size-least = leb-true 1 (s .«record_size») (p2 .1);
+      size-most = leb-true (s .«record_size» + 6) (blockSize s) (p3 .1);
+      header-least = leb-true 120 (s .«header_size») (p4 .1);
       blocks-most = leb-true (s .blocks) 32767 (p5 .1);
       fields-least = leb-true 1 (s .fields) (p6 .1);
       fields-most = leb-true (s .fields) 255 (p7 .1);
-      keys-most = leb-true (s .keys) (s .fields) (p8 .1);
+      keys-most = leb-true (s .«key_fields») (s .fields) (p8 .1);
       records-most = leb-true (s .records) 2147483647 (p9 .1);
       keyed-by-byte = keyed-by-byte s (p10 .1);
       byte-by-keyed = λ l. keyed-gives s l (p10 .1) .0;
@@ -101,7 +101,7 @@ limits-give s e =
 limits-take : (s : Stored) → Limits s → limitsKept s ≡ true
 unfolding limitsKept
 limits-take s l =
-    join (join (join (join (join (join (join (join (join (join (le-leb 1 (s .units) (l .units-least)) (le-leb (s .units) 4 (l .units-most))) (le-leb 1 (s .size) (l .size-least))) (le-leb (s .size + 6) (blockSize s) (l .size-most))) (le-leb 120 (s .header) (l .header-least))) (le-leb (s .blocks) 32767 (l .blocks-most))) (le-leb 1 (s .fields) (l .fields-least))) (le-leb (s .fields) 255 (l .fields-most))) (le-leb (s .keys) (s .fields) (l .keys-most))) (le-leb (s .records) 2147483647 (l .records-most))) (keyed-takes s l)
+    join (join (join (join (join (join (join (join (join (join (le-leb 1 (s .units) (l .units-least)) (le-leb (s .units) 4 (l .units-most))) (le-leb 1 (s .«record_size») (l .size-least))) (le-leb (s .«record_size» + 6) (blockSize s) (l .size-most))) (le-leb 120 (s .«header_size») (l .header-least))) (le-leb (s .blocks) 32767 (l .blocks-most))) (le-leb 1 (s .fields) (l .fields-least))) (le-leb (s .fields) 255 (l .fields-most))) (le-leb (s .«key_fields») (s .fields) (l .keys-most))) (le-leb (s .records) 2147483647 (l .records-most))) (keyed-takes s l)
 
 -- ---- 7: pairs
 
@@ -159,25 +159,25 @@ names-take t end (suc n) at (some {l = l} name inside rest) =
 
 -- ---- 7
 
-fields-give : (t : List ℕ) (s : Stored) → s .keys ≤ s .fields → fieldsRight t s ≡ true → FieldRules t s
+fields-give : (t : List ℕ) (s : Stored) → s .«key_fields» ≤ s .fields → fieldsRight t s ≡ true → FieldRules t s
 unfolding fieldsRight
 fields-give t s k e =
     let area = areaAt (s .version) in
-    let p = and-eq-true-iff (each (pairRight t area (s .keys)) (s .fields) && eqb (widthSum t area (s .fields)) (s .size)) (namesFit t (s .header) (s .fields) (namesAt s)) .0 e in
-    let q = and-eq-true-iff (each (pairRight t area (s .keys)) (s .fields)) (eqb (widthSum t area (s .fields)) (s .size)) .0 (p .0) in
+    let p = and-eq-true-iff (each (pairRight t area (s .«key_fields»)) (s .fields) && eqb (widthSum t area (s .fields)) (s .«record_size»)) (namesFit t (s .«header_size») (s .fields) (namesAt s)) .0 e in
+    let q = and-eq-true-iff (each (pairRight t area (s .«key_fields»)) (s .fields)) (eqb (widthSum t area (s .fields)) (s .«record_size»)) .0 (p .0) in
     record {
-      pairs = λ f l. allowed-unknown (ltb f (s .keys)) (kindAt t area f) (each-gives (pairRight t area (s .keys)) (s .fields) (q .0) f l);
-      keys = λ f l. allowed-blob (kindAt t area f) (rw (lt-ltb f (s .keys) l) at (each-gives (pairRight t area (s .keys)) (s .fields) (q .0) f (omega arith)));
-      widths = eqb-true (widthSum t area (s .fields)) (s .size) (q .1);
-      names = names-give t (s .header) (s .fields) (namesAt s) (p .1);
+      pairs = λ f l. allowed-unknown (ltb f (s .«key_fields»)) (kindAt t area f) (each-gives (pairRight t area (s .«key_fields»)) (s .fields) (q .0) f l);
+      keys = λ f l. allowed-blob (kindAt t area f) (rw (lt-ltb f (s .«key_fields») l) at (each-gives (pairRight t area (s .«key_fields»)) (s .fields) (q .0) f (omega arith)));
+      widths = eqb-true (widthSum t area (s .fields)) (s .«record_size») (q .1);
+      names = names-give t (s .«header_size») (s .fields) (namesAt s) (p .1);
     }
 
 fields-take : (t : List ℕ) (s : Stored) → FieldRules t s → fieldsRight t s ≡ true
 unfolding fieldsRight
 fields-take t s r =
     let area = areaAt (s .version) in
-    let a : each (pairRight t area (s .keys)) (s .fields) ≡ true = each-takes (pairRight t area (s .keys)) (s .fields) (λ f l. allowed-takes (ltb f (s .keys)) (kindAt t area f) (r .pairs f l) (λ k. r .keys f (ltb-true f (s .keys) k))) in
-    rw (a, eq-eqb (widthSum t area (s .fields)) (s .size) (r .widths), names-take t (s .header) (s .fields) (namesAt s) (r .names))
+    let a : each (pairRight t area (s .«key_fields»)) (s .fields) ≡ true = each-takes (pairRight t area (s .«key_fields»)) (s .fields) (λ f l. allowed-takes (ltb f (s .«key_fields»)) (kindAt t area f) (r .pairs f l) (λ k. r .keys f (ltb-true f (s .«key_fields») k))) in
+    rw (a, eq-eqb (widthSum t area (s .fields)) (s .«record_size») (r .widths), names-take t (s .«header_size») (s .fields) (namesAt s) (r .names))
 
 -- ---- all seven
 
@@ -195,7 +195,7 @@ answer-gives t e =
     let p3 = kept-of (knownVersion (s .version)) 2 _ (p2 .1) in
     let p4 = kept-of (unencrypted t (encryptionAt (s .version))) 3 _ (p3 .1) in
     let p5 = kept-of (limitsKept s) 4 _ (p4 .1) in
-    let p6 = kept-of (lengthRight (length t) (s .header) (s .blocks) (s .units)) 5 _ (p5 .1) in
+    let p6 = kept-of (lengthRight (length t) (s .«header_size») (s .blocks) (s .units)) 5 _ (p5 .1) in
     let p7 = kept-of (fieldsRight t s) 6 0 (p6 .1) in
     let v = and-eq-true-iff (leb 3 (s .version)) (leb (s .version) 11) .0 (p3 .0) in
     let l = limits-give s (p5 .0) in
@@ -206,7 +206,7 @@ answer-gives t e =
       version-most = leb-true (s .version) 11 (v .1);
       unencrypted = unencrypted-gives t (encryptionAt (s .version)) (p4 .0);
       limits = l;
-      whole = eqb-true (length t) (s .header + s .blocks * blockSize s) (p6 .0);
+      whole = eqb-true (length t) (s .«header_size» + s .blocks * blockSize s) (p6 .0);
       fields = fields-give t s (l .keys-most) (p7 .0);
     }
   where
@@ -223,4 +223,4 @@ pub answer-takes : (t : List ℕ) → HeaderRules t → headerAnswer t ≡ 0
 unfolding headerAnswer longEnough knownVersion lengthRight
 answer-takes t r =
     let s = storedOf t in
-    rw (le-leb 120 (length t) (r .long), is-table s (r .kind), le-leb 3 (s .version) (r .version-least), le-leb (s .version) 11 (r .version-most), unencrypted-takes t (encryptionAt (s .version)) (r .unencrypted), limits-take s (r .limits), eq-eqb (length t) (s .header + s .blocks * blockSize s) (r .whole), fields-take t s (r .fields))
+    rw (le-leb 120 (length t) (r .long), is-table s (r .kind), le-leb 3 (s .version) (r .version-least), le-leb (s .version) 11 (r .version-most), unencrypted-takes t (encryptionAt (s .version)) (r .unencrypted), limits-take s (r .limits), eq-eqb (length t) (s .«header_size» + s .blocks * blockSize s) (r .whole), fields-take t s (r .fields))

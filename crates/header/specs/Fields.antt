@@ -64,6 +64,6 @@ namesFit t end (suc n) at = nameFits t end at && namesFit t end n (at + nameLeng
 -- 7: the pairs are right, the widths add up to the record size, and the names are inside the header
 unfoldable pub fieldsRight : List ℕ → Stored → Bool
 fieldsRight t s =
-    each (pairRight t (areaAt (s .version)) (s .keys)) (s .fields)
-    && eqb (widthSum t (areaAt (s .version)) (s .fields)) (s .size)
-    && namesFit t (s .header) (s .fields) (namesAt s)
+    each (pairRight t (areaAt (s .version)) (s .«key_fields»)) (s .fields)
+    && eqb (widthSum t (areaAt (s .version)) (s .fields)) (s .«record_size»)
+    && namesFit t (s .«header_size») (s .fields) (namesAt s)

@@ -68,20 +68,20 @@ unencrypted t at = allZero t at 4
 
 -- 5: with key fields byte 04 and the sort byte are 0 (keyed, plain byte order); without them byte 04 is not 0
 unfoldable pub keyedRight : Stored → Bool
-keyedRight s = cond (leb 1 (s .keys)) (eqb (s .kind) 0 && eqb (s .sort) 0) (not (eqb (s .kind) 0))
+keyedRight s = cond (leb 1 (s .«key_fields»)) (eqb (s .kind) 0 && eqb (s .sort) 0) (not (eqb (s .kind) 0))
 
 -- 5: every number of the header within its limit
 unfoldable pub limitsKept : Stored → Bool
 limitsKept s =
     leb 1 (s .units)
     && leb (s .units) mostUnits
-    && leb 1 (s .size)
-    && leb (s .size + blockHead) (blockSize s)
-    && leb leastHeader (s .header)
+    && leb 1 (s .«record_size»)
+    && leb (s .«record_size» + blockHead) (blockSize s)
+    && leb leastHeader (s .«header_size»)
     && leb (s .blocks) mostBlocks
     && leb 1 (s .fields)
     && leb (s .fields) mostFields
-    && leb (s .keys) (s .fields)
+    && leb (s .«key_fields») (s .fields)
     && leb (s .records) mostRecords
     && keyedRight s
 
@@ -99,7 +99,7 @@ headerAnswer t =
     (firstBroken (knownVersion (storedOf t .version)) unknownVersion
     (firstBroken (unencrypted t (encryptionAt (storedOf t .version))) encrypted
     (firstBroken (limitsKept (storedOf t)) headerLimit
-    (firstBroken (lengthRight (length t) (storedOf t .header) (storedOf t .blocks) (storedOf t .units)) wrongLength
+    (firstBroken (lengthRight (length t) (storedOf t .«header_size») (storedOf t .blocks) (storedOf t .units)) wrongLength
     (firstBroken (fieldsRight t (storedOf t)) fieldRule 0))))))
 
 -- ---- the answer
@@ -110,19 +110,19 @@ refusedWith number =
     record {
       refusal = number;
       version = 0;
-      header = 0;
-      block = 0;
+      «header_size» = 0;
+      «block_size» = 0;
       blocks = 0;
-      size = 0;
+      «record_size» = 0;
       records = 0;
       first = 0;
       last = 0;
       free = 0;
       fields = 0;
-      keys = 0;
+      «key_fields» = 0;
       area = 0;
       names = 0;
-      key = 0;
+      «key_length» = 0;
       offsets = replicate 256 0;
     }
 
@@ -132,26 +132,26 @@ acceptedWith s key offsets =
     record {
       refusal = 0;
       version = s .version;
-      header = s .header;
-      block = blockSize s;
+      «header_size» = s .«header_size»;
+      «block_size» = blockSize s;
       blocks = s .blocks;
-      size = s .size;
+      «record_size» = s .«record_size»;
       records = s .records;
       first = s .first;
       last = s .last;
       free = s .free;
       fields = s .fields;
-      keys = s .keys;
+      «key_fields» = s .«key_fields»;
       area = areaAt (s .version);
       names = namesAt s;
-      key = key;
+      «key_length» = key;
       offsets = offsets;
     }
 
 -- the key length is the widths of the key fields added up
 unfoldable pub acceptedOf : List ℕ → Stored → Header
 acceptedOf t s =
-    acceptedWith s (widthSum t (areaAt (s .version)) (s .keys)) (offsetsOf t (areaAt (s .version)) (s .fields))
+    acceptedWith s (widthSum t (areaAt (s .version)) (s .«key_fields»)) (offsetsOf t (areaAt (s .version)) (s .fields))
 
 -- the answer by its number: 0 has the numbers, any other has none
 unfoldable pub answerWith : ℕ → List ℕ → Header

@@ -19,17 +19,17 @@ use Rattle.header.specs.declared.kind.StoredKind.the-variants.{Kind, Unk
 pub record Limits (s : Stored) : Type 0 where
   pub units-least : 1 ≤ s .units
   pub units-most : s .units ≤ mostUnits
-  pub size-least : 1 ≤ s .size
-  pub size-most : s .size + blockHead ≤ blockSize s
-  pub header-least : leastHeader ≤ s .header
+  pub size-least : 1 ≤ s .«record_size»
+  pub size-most : s .«record_size» + blockHead ≤ blockSize s
+  pub header-least : leastHeader ≤ s .«header_size»
   pub blocks-most : s .blocks ≤ mostBlocks
   pub fields-least : 1 ≤ s .fields
   pub fields-most : s .fields ≤ mostFields
-  pub keys-most : s .keys ≤ s .fields
+  pub keys-most : s .«key_fields» ≤ s .fields
   pub records-most : s .records ≤ mostRecords
-  pub keyed-by-byte : s .kind ≡ 0 → 1 ≤ s .keys
-  pub byte-by-keyed : 1 ≤ s .keys → s .kind ≡ 0
-  pub plain-order : 1 ≤ s .keys → s .sort ≡ 0
+  pub keyed-by-byte : s .kind ≡ 0 → 1 ≤ s .«key_fields»
+  pub byte-by-keyed : 1 ≤ s .«key_fields» → s .kind ≡ 0
+  pub plain-order : 1 ≤ s .«key_fields» → s .sort ≡ 0
 
 -- a zero-ended name of 1 to 25 bytes at a place
 pub record NameAt (t : List ℕ) (at l : ℕ) : Type 0 where
@@ -46,9 +46,9 @@ pub data Names (t : List ℕ) (end : ℕ) : ℕ → ℕ → Type 0 where
 -- 7: the table of kinds has every pair, no key field is a blob, the widths add up, the names are there
 pub record FieldRules (t : List ℕ) (s : Stored) : Type 0 where
   pub pairs : (f : ℕ) → f < s .fields → kindAt t (areaAt (s .version)) f ≡ Unknown → ⊥
-  pub keys : (f : ℕ) → f < s .keys → kindAt t (areaAt (s .version)) f ≡ Kind Blob → ⊥
-  pub widths : widthSum t (areaAt (s .version)) (s .fields) ≡ s .size
-  pub names : Names t (s .header) (s .fields) (namesAt s)
+  pub keys : (f : ℕ) → f < s .«key_fields» → kindAt t (areaAt (s .version)) f ≡ Kind Blob → ⊥
+  pub widths : widthSum t (areaAt (s .version)) (s .fields) ≡ s .«record_size»
+  pub names : Names t (s .«header_size») (s .fields) (namesAt s)
 
 -- rules 1 to 7
 pub record HeaderRules (t : List ℕ) : Type 0 where
@@ -64,31 +64,31 @@ pub record HeaderRules (t : List ℕ) : Type 0 where
   -- 5
   pub limits : Limits (storedOf t)
   -- 6
-  pub whole : length t ≡ storedOf t .header + storedOf t .blocks * blockSize (storedOf t)
+  pub whole : length t ≡ storedOf t .«header_size» + storedOf t .blocks * blockSize (storedOf t)
   -- 7
   pub fields : FieldRules t (storedOf t)
 
 -- what an accepted header gives the crates above: bounds, the file's length, where a field is
 pub record Accepted (t : List ℕ) (h : Header) : Type 0 where
   pub same : h ≡ headerOf t
-  pub whole : length t ≡ h .header + h .blocks * h .block
-  pub header-least : leastHeader ≤ h .header
-  pub block-least : unit ≤ h .block
-  pub block-most : h .block ≤ mostUnits * unit
+  pub whole : length t ≡ h .«header_size» + h .blocks * h .«block_size»
+  pub header-least : leastHeader ≤ h .«header_size»
+  pub block-least : unit ≤ h .«block_size»
+  pub block-most : h .«block_size» ≤ mostUnits * unit
   pub blocks-most : h .blocks ≤ mostBlocks
-  pub size-least : 1 ≤ h .size
-  pub size-most : h .size + blockHead ≤ h .block
+  pub size-least : 1 ≤ h .«record_size»
+  pub size-most : h .«record_size» + blockHead ≤ h .«block_size»
   pub records-most : h .records ≤ mostRecords
   pub fields-least : 1 ≤ h .fields
   pub fields-most : h .fields ≤ mostFields
-  pub keys-most : h .keys ≤ h .fields
-  pub area-inside : h .area + 2 * h .fields ≤ h .header
+  pub keys-most : h .«key_fields» ≤ h .fields
+  pub area-inside : h .area + 2 * h .fields ≤ h .«header_size»
   pub offsets-length : length (h .offsets) ≡ 256
   pub offset : (i : ℕ) → i ≤ h .fields → getD (h .offsets) i 0 ≡ widthSum t (h .area) i
-  pub widths : widthSum t (h .area) (h .fields) ≡ h .size
-  pub key-length : h .key ≡ widthSum t (h .area) (h .keys)
-  pub key-most : h .key ≤ h .size
-  pub key-least : 1 ≤ h .keys → 1 ≤ h .key
+  pub widths : widthSum t (h .area) (h .fields) ≡ h .«record_size»
+  pub key-length : h .«key_length» ≡ widthSum t (h .area) (h .«key_fields»)
+  pub key-most : h .«key_length» ≤ h .«record_size»
+  pub key-least : 1 ≤ h .«key_fields» → 1 ≤ h .«key_length»
   pub pairs : (f : ℕ) → f < h .fields → kindAt t (h .area) f ≡ Unknown → ⊥
 
 -- a field of an accepted table: its number is one of the fields', its kind and width are those of the stored pair, the kind permits
@@ -100,4 +100,4 @@ pub record FieldBounds (t : List ℕ) (h : Header) (f : ℕ) (kind : FieldKind) 
   pub stored : kindOf (byte t (h .area + 2 * (f - 1))) width ≡ Kind kind
   pub permitted : Permitted kind width
   pub starts : offset ≡ widthSum t (h .area) (f - 1)
-  pub inside : offset + width ≤ h .size
+  pub inside : offset + width ≤ h .«record_size»

@@ -25,9 +25,9 @@ nextName t end at = judgedIf (nameFits t end at) (at + nameLength t at + 1)
 pub record Placed (t : List ℕ) (s : Stored) : Type 0 where
   pub units-most : s .units ≤ mostUnits
   pub fields-most : s .fields ≤ mostFields
-  pub keys-most : s .keys ≤ s .fields
-  pub room : namesAt s < s .header
-  pub inside : s .header ≤ length t
+  pub keys-most : s .«key_fields» ≤ s .fields
+  pub room : namesAt s < s .«header_size»
+  pub inside : s .«header_size» ≤ length t
 
 -- what rule 7 answers of a header that keeps the rules before it
 unfoldable pub fieldsAnswer : List ℕ → Stored → Header

@@ -10,8 +10,8 @@ use Rattle.header.specs.declared.stored.Stored.{Stored}
 unfoldable pub storedOf : List ℕ → Stored
 storedOf t =
     record {
-      size = word t 0x00;
-      header = word t 0x02;
+      «record_size» = word t 0x00;
+      «header_size» = word t 0x02;
       kind = byte t 0x04;
       units = byte t 0x05;
       records = long t 0x06;
@@ -19,7 +19,7 @@ storedOf t =
       first = word t 0x0E;
       last = word t 0x10;
       fields = word t 0x21;
-      keys = word t 0x23;
+      «key_fields» = word t 0x23;
       sort = byte t 0x29;
       version = byte t 0x39;
       free = word t 0x4D;

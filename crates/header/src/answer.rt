@@ -18,44 +18,44 @@ pub fn refused(number: u8) -> Header
     Header {
         refusal: number,
         version: 0,
-        header: 0,
-        block: 0,
+        header_size: 0,
+        block_size: 0,
         blocks: 0,
-        size: 0,
+        record_size: 0,
         records: 0,
         first: 0,
         last: 0,
         free: 0,
         fields: 0,
-        keys: 0,
+        key_fields: 0,
         area: 0,
         names: 0,
-        key: 0,
+        key_length: 0,
         offsets: [0u16; 256],
     }
 }
 
 // The answer for a header that keeps every rule.
-fn accepted(s: Stored, key: u16, offsets: [u16; 256]) -> Header
+fn accepted(s: Stored, key_length: u16, offsets: [u16; 256]) -> Header
     requires { ⌜ (s .units ≤ mostUnits) × (s .fields ≤ mostFields) ⌝ }
-    ensures { λ r. ⌜ r ≡ acceptedWith s key offsets ⌝ }
+    ensures { λ r. ⌜ r ≡ acceptedWith s «key_length» offsets ⌝ }
 {
     Header {
         refusal: refusal::ACCEPTED,
         version: s.version,
-        header: s.header,
-        block: stored::block_bytes(s.units),
+        header_size: s.header_size,
+        block_size: stored::block_bytes(s.units),
         blocks: s.blocks,
-        size: s.size,
+        record_size: s.record_size,
         records: s.records,
         first: s.first,
         last: s.last,
         free: s.free,
         fields: s.fields,
-        keys: s.keys,
+        key_fields: s.key_fields,
         area: stored::area_at(s.version),
         names: stored::names_at(s),
-        key,
+        key_length,
         offsets,
     }
 }
@@ -67,14 +67,14 @@ pub fn with_fields(t: &[u8], s: Stored) -> Header
 {
     let area = stored::area_at(s.version) as usize;
     let names = stored::names_at(s) as usize;
-    let end = s.header as usize;
+    let end = s.header_size as usize;
     let n = s.fields as usize;
-    let keys = s.keys as usize;
+    let keys = s.key_fields as usize;
     let mut offsets = [0u16; 256];
     if !fields::add_widths(t, area, keys, n, &mut offsets) {
         return refused(refusal::FIELD_RULE);
     }
-    if offsets[n] != s.size {
+    if offsets[n] != s.record_size {
         return refused(refusal::FIELD_RULE);
     }
     if !names::names_fit(t, names, end, n) {

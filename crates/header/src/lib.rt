@@ -30,13 +30,10 @@ use crate::answer::refused;
 pub struct Header {
     pub refusal: u8,
     pub version: u8,
-    // The header's size.
-    pub header: u16,
-    // A block's size.
-    pub block: u16,
+    pub header_size: u16,
+    pub block_size: u16,
     pub blocks: u16,
-    // A record's size.
-    pub size: u16,
+    pub record_size: u16,
     // The record count.
     pub records: u32,
     // The first and the last used block, and the first free one.
@@ -45,12 +42,11 @@ pub struct Header {
     pub free: u16,
     pub fields: u16,
     // How many fields make the key.
-    pub keys: u16,
+    pub key_fields: u16,
     // Where the field area and the names begin.
     pub area: u16,
     pub names: u16,
-    // The key's length.
-    pub key: u16,
+    pub key_length: u16,
     // At place i the widths of the first i fields added up.
     pub offsets: [u16; 256],
 }
@@ -75,7 +71,7 @@ pub fn read(t: &[u8]) -> Header
     if !rules::limits_kept(s) {
         return refused(refusal::HEADER_LIMIT);
     }
-    let whole = rules::is_length_right(t.len(), s.header, s.blocks, s.units);
+    let whole = rules::is_length_right(t.len(), s.header_size, s.blocks, s.units);
     let room = rules::has_room(s);
     if !whole {
         return refused(refusal::WRONG_LENGTH);

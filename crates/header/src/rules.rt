@@ -62,7 +62,7 @@ pub fn is_unencrypted(t: &[u8], at: usize) -> bool
 fn is_keyed_right(s: Stored) -> bool
     ensures { λ r. ⌜ r ≡ keyedRight s ⌝ }
 {
-    if 1 <= s.keys {
+    if 1 <= s.key_fields {
         return (s.kind == KEYED) & (s.sort == PLAIN_ORDER);
     }
     s.kind != KEYED
@@ -73,16 +73,16 @@ pub fn limits_kept(s: Stored) -> bool
     ensures { λ r. ⌜ r ≡ limitsKept s ⌝ }
 {
     let block = block_size(s.units);
-    let size = s.size as u32;
+    let size = s.record_size as u32;
     (1 <= s.units)
         & (s.units <= MOST_UNITS)
-        & (1 <= s.size)
+        & (1 <= s.record_size)
         & (size + BLOCK_HEAD <= block)
-        & (LEAST_HEADER <= s.header)
+        & (LEAST_HEADER <= s.header_size)
         & (s.blocks <= MOST_BLOCKS)
         & (1 <= s.fields)
         & (s.fields <= MOST_FIELDS)
-        & (s.keys <= s.fields)
+        & (s.key_fields <= s.fields)
         & (s.records <= MOST_RECORDS)
         & is_keyed_right(s)
 }
@@ -98,7 +98,7 @@ pub fn is_length_right(long: usize, header: u16, blocks: u16, units: u8) -> bool
 // Whether the names begin inside the header: where they don't, rule 7 is broken and no field is read.
 pub fn has_room(s: Stored) -> bool
     requires { ⌜ s .fields ≤ mostFields ⌝ }
-    ensures { λ r. ⌜ r ≡ ltb (namesAt s) (s .header) ⌝ }
+    ensures { λ r. ⌜ r ≡ ltb (namesAt s) (s .«header_size») ⌝ }
 {
-    names_at(s) < s.header
+    names_at(s) < s.header_size
 }

@@ -54,8 +54,8 @@ const NAMES_PER_FIELD: u16 = 6;
 
 // The record count is signed in the file; it is kept as an unsigned number and judged by its limit.
 pub struct Stored {
-    pub size: u16,
-    pub header: u16,
+    pub record_size: u16,
+    pub header_size: u16,
     pub kind: u8,
     pub units: u8,
     pub records: u32,
@@ -63,7 +63,7 @@ pub struct Stored {
     pub first: u16,
     pub last: u16,
     pub fields: u16,
-    pub keys: u16,
+    pub key_fields: u16,
     pub sort: u8,
     pub version: u8,
     pub free: u16,
@@ -75,8 +75,8 @@ pub fn read_stored(t: &[u8]) -> Stored
     ensures { λ r. ⌜ r ≡ storedOf (now (t .entry)) ⌝ }
 {
     Stored {
-        size: words::word(t, RECORD_SIZE),
-        header: words::word(t, HEADER_SIZE),
+        record_size: words::word(t, RECORD_SIZE),
+        header_size: words::word(t, HEADER_SIZE),
         kind: t[KIND],
         units: t[BLOCK_UNITS],
         records: words::long(t, RECORD_COUNT),
@@ -84,7 +84,7 @@ pub fn read_stored(t: &[u8]) -> Stored
         first: words::word(t, FIRST_BLOCK),
         last: words::word(t, LAST_BLOCK),
         fields: words::word(t, FIELDS),
-        keys: words::word(t, KEY_FIELDS),
+        key_fields: words::word(t, KEY_FIELDS),
         sort: t[SORT],
         version: t[VERSION],
         free: words::word(t, FIRST_FREE),

@@ -55,19 +55,19 @@ fn field_values(field: Field) {
 fn numbers(h: Header) {
     byte(b": ", h.refusal);
     byte(b" version ", h.version);
-    word(b" header ", h.header);
-    word(b" block ", h.block);
+    word(b" header ", h.header_size);
+    word(b" block ", h.block_size);
     word(b" blocks ", h.blocks);
-    word(b" size ", h.size);
+    word(b" size ", h.record_size);
     long(b" records ", h.records);
     word(b" first ", h.first);
     word(b" last ", h.last);
     word(b" free ", h.free);
     word(b" fields ", h.fields);
-    word(b" keys ", h.keys);
+    word(b" keys ", h.key_fields);
     word(b" area ", h.area);
     word(b" names ", h.names);
-    word(b" key ", h.key);
+    word(b" key ", h.key_length);
     word(b" offset255 ", h.offsets[255]);
     io::write_all(STDOUT_FILENO, b"\n");
 }

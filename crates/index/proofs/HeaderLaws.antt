@@ -37,10 +37,10 @@ module _ (x : List ℕ) (n : ℕ) where
         broken-25 e = answered 25 (rw (k21, k22, k23, e))
 
         module _ (k25 : limitsKept n s ≡ true) where
-          pub broken-26 : lengthRight (length x) (s .header) (s .blocks) (s .units) ≡ false → indexOf x n ≡ refusedWith 26
+          pub broken-26 : lengthRight (length x) (s .«header_size») (s .blocks) (s .units) ≡ false → indexOf x n ≡ refusedWith 26
           unfolding indexAnswer answerWith
           broken-26 e = answered 26 (rw (k21, k22, k23, k25, e))
 
-          pub all-kept : lengthRight (length x) (s .header) (s .blocks) (s .units) ≡ true → indexOf x n ≡ acceptedOf s
+          pub all-kept : lengthRight (length x) (s .«header_size») (s .blocks) (s .units) ≡ true → indexOf x n ≡ acceptedOf s
           unfolding indexAnswer answerWith
           all-kept e = answered 0 (rw (k21, k22, k23, k25, e))

@@ -85,7 +85,7 @@ module _ (t x key : List ℕ) where
   h = headerOf t
 
   abbrev i : IndexHeader
-  i = indexOf x (h .key)
+  i = indexOf x (h .«key_length»)
 
   pub walk-reads : Reads 0 (i .levels) (walkOf t x key)
   walk-reads = by-table (eqb (h .refusal) 0) refl
@@ -112,8 +112,8 @@ module _ (t x key : List ℕ) where
   levels-most = go (i .refusal) refl
     where
       go : (n : ℕ) → i .refusal ≡ n → i .levels ≤ mostLevels
-      go zero e = accepted-index x (h .key) e .levels-most
-      go (suc n) e = rw (refused-only x (h .key) n e) (omega arith)
+      go zero e = accepted-index x (h .«key_length») e .levels-most
+      go (suc n) e = rw (refused-only x (h .«key_length») n e) (omega arith)
 
   pub reads-most : walkOf t x key .reads ≤ mostLevels
   reads-most = omega (arith, walk-reads .most, levels-most)

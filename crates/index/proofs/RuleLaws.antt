@@ -69,19 +69,19 @@ module _ (n : ℕ) (s : Stored) where
       let p2 = both (p3 .0) in
       let p1 = both (p2 .0) in
       record {
-        size = eqb-true (s .size) (n + entryNumbers) (p1 .0);
-        header-least = leb-true leastIndex (s .header) (p1 .1);
+        size = eqb-true (s .«record_size») (n + entryNumbers) (p1 .0);
+        header-least = leb-true leastIndex (s .«header_size») (p1 .1);
         units-least = leb-true 1 (s .units) (p2 .1);
         units-most = leb-true (s .units) mostUnits (p3 .1);
         blocks-most = leb-true (s .blocks) mostBlocks (p4 .1);
-        size-most = leb-true (s .size + blockHead) (s .units * unit) (p5 .1);
+        size-most = leb-true (s .«record_size» + blockHead) (s .units * unit) (p5 .1);
         root = root-gives s (p6 .1);
       }
 
   limits-take : IndexLimits n s → limitsKept n s ≡ true
   unfolding limitsKept
   limits-take l =
-      join (join (join (join (join (join (eq-eqb (s .size) (n + entryNumbers) (l .size)) (le-leb leastIndex (s .header) (l .header-least))) (le-leb 1 (s .units) (l .units-least))) (le-leb (s .units) mostUnits (l .units-most))) (le-leb (s .blocks) mostBlocks (l .blocks-most))) (le-leb (s .size + blockHead) (s .units * unit) (l .size-most))) (root-takes s (l .root))
+      join (join (join (join (join (join (eq-eqb (s .«record_size») (n + entryNumbers) (l .size)) (le-leb leastIndex (s .«header_size») (l .header-least))) (le-leb 1 (s .units) (l .units-least))) (le-leb (s .units) mostUnits (l .units-most))) (le-leb (s .blocks) mostBlocks (l .blocks-most))) (le-leb (s .«record_size» + blockHead) (s .units * unit) (l .size-most))) (root-takes s (l .root))
 
 -- ---- 21, 22, 23, 25 and 26
 
@@ -94,7 +94,7 @@ module _ (x : List ℕ) (n : ℕ) where
       let p2 = kept-of (isIndex s) 21 _ (p1 .1) in
       let p3 = kept-of (knownVersion (s .version)) 22 _ (p2 .1) in
       let p4 = kept-of (limitsKept n s) 24 _ (p3 .1) in
-      let p5 = kept-of (lengthRight (length x) (s .header) (s .blocks) (s .units)) 25 0 (p4 .1) in
+      let p5 = kept-of (lengthRight (length x) (s .«header_size») (s .blocks) (s .units)) 25 0 (p4 .1) in
       let v = both {a = leb leastVersion (s .version)} {b = leb (s .version) mostVersion} (p3 .0) in
       record {
         long = leb-true leastIndex (length x) (p1 .0);
@@ -102,11 +102,11 @@ module _ (x : List ℕ) (n : ℕ) where
         version-least = leb-true leastVersion (s .version) (v .0);
         version-most = leb-true (s .version) mostVersion (v .1);
         limits = limits-give n s (p4 .0);
-        whole = eqb-true (length x) (s .header + s .blocks * (s .units * unit)) (p5 .0);
+        whole = eqb-true (length x) (s .«header_size» + s .blocks * (s .units * unit)) (p5 .0);
       }
 
   pub answer-takes : IndexRules x n → indexAnswer x n ≡ 0
   unfolding indexAnswer longEnough isIndex knownVersion lengthRight
   answer-takes r =
       let s = storedOf x in
-      rw (le-leb leastIndex (length x) (r .long), eq-eqb (s .kind) indexKind (r .kind), le-leb leastVersion (s .version) (r .version-least), le-leb (s .version) mostVersion (r .version-most), limits-take n s (r .limits), eq-eqb (length x) (s .header + s .blocks * (s .units * unit)) (r .whole))
+      rw (le-leb leastIndex (length x) (r .long), eq-eqb (s .kind) indexKind (r .kind), le-leb leastVersion (s .version) (r .version-least), le-leb (s .version) mostVersion (r .version-most), limits-take n s (r .limits), eq-eqb (length x) (s .«header_size» + s .blocks * (s .units * unit)) (r .whole))

@@ -108,7 +108,7 @@ module _ (t x key : List ℕ) where
   h = headerOf t
 
   abbrev i : IndexHeader
-  i = indexOf x (h .key)
+  i = indexOf x (h .«key_length»)
 
   pub table-refused : (h .refusal ≡ 0 → ⊥) → walkOf t x key ≡ refusedWalk (h .refusal)
   unfolding walkOf
@@ -142,7 +142,7 @@ module _ (t x key : List ℕ) where
         unfolding shapeOf
         walkable g j a b =
             let head = accepted t e in
-            let own = accepted-index x (h .key) k in
+            let own = accepted-index x (h .«key_length») k in
             let long = fits-gives h key f .1 in
             rw (a, b) (record {
               sound = sound t h head;

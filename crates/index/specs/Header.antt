@@ -50,12 +50,12 @@ rootRight s =
 -- 25: every number of the header within its limit
 unfoldable pub limitsKept : ℕ → Stored → Bool
 limitsKept n s =
-    eqb (s .size) (n + entryNumbers)
-    && leb leastIndex (s .header)
+    eqb (s .«record_size») (n + entryNumbers)
+    && leb leastIndex (s .«header_size»)
     && leb 1 (s .units)
     && leb (s .units) mostUnits
     && leb (s .blocks) mostBlocks
-    && leb (s .size + blockHead) (s .units * unit)
+    && leb (s .«record_size» + blockHead) (s .units * unit)
     && rootRight s
 
 -- the first broken rule's number, or 0. 23 is 3's rule and 26 is 6's
@@ -65,7 +65,7 @@ indexAnswer x n =
     (firstBroken (isIndex (storedOf x)) notAnIndex
     (firstBroken (knownVersion (storedOf x .version)) indexVersion
     (firstBroken (limitsKept n (storedOf x)) indexLimit
-    (firstBroken (lengthRight (length x) (storedOf x .header) (storedOf x .blocks) (storedOf x .units)) indexLength 0))))
+    (firstBroken (lengthRight (length x) (storedOf x .«header_size») (storedOf x .blocks) (storedOf x .units)) indexLength 0))))
 
 -- ---- the answer
 
@@ -74,7 +74,7 @@ unfoldable pub refusedWith : ℕ → IndexHeader
 refusedWith number =
     record {
       refusal = number;
-      shape = record { header = 0; block = 0; blocks = 0; size = 0 };
+      shape = record { «header_size» = 0; «block_size» = 0; blocks = 0; «record_size» = 0 };
       root = 0;
       levels = 0;
     }
@@ -84,7 +84,7 @@ unfoldable pub acceptedOf : Stored → IndexHeader
 acceptedOf s =
     record {
       refusal = 0;
-      shape = record { header = s .header; block = s .units * unit; blocks = s .blocks; size = s .size };
+      shape = record { «header_size» = s .«header_size»; «block_size» = s .units * unit; blocks = s .blocks; «record_size» = s .«record_size» };
       root = s .root;
       levels = s .levels;
     }

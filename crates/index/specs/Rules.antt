@@ -23,12 +23,12 @@ pub record Rooted (s : Stored) : Type 0 where
 
 -- 25: every number within its limit, for keys of n bytes
 pub record IndexLimits (n : ℕ) (s : Stored) : Type 0 where
-  pub size : s .size ≡ n + entryNumbers
-  pub header-least : leastIndex ≤ s .header
+  pub size : s .«record_size» ≡ n + entryNumbers
+  pub header-least : leastIndex ≤ s .«header_size»
   pub units-least : 1 ≤ s .units
   pub units-most : s .units ≤ mostUnits
   pub blocks-most : s .blocks ≤ mostBlocks
-  pub size-most : s .size + blockHead ≤ s .units * unit
+  pub size-most : s .«record_size» + blockHead ≤ s .units * unit
   pub root : ((s .root ≡ 0) × (s .levels ≡ 0)) ⊎ Rooted s
 
 -- rules 21 to 26
@@ -43,13 +43,13 @@ pub record IndexRules (x : List ℕ) (n : ℕ) : Type 0 where
   -- 25
   pub limits : IndexLimits n (storedOf x)
   -- 26
-  pub whole : length x ≡ storedOf x .header + storedOf x .blocks * (storedOf x .units * unit)
+  pub whole : length x ≡ storedOf x .«header_size» + storedOf x .blocks * (storedOf x .units * unit)
 
 -- what an accepted index gives the crates above: bounds, and where its entries stand
 pub record AcceptedIndex (x : List ℕ) (n : ℕ) (i : IndexHeader) : Type 0 where
   pub same : i ≡ indexOf x n
   pub sound : Sound x (i .shape)
-  pub entry-size : i .shape .size ≡ n + entryNumbers
+  pub entry-size : i .shape .«record_size» ≡ n + entryNumbers
   pub levels-most : i .levels ≤ mostLevels
   pub levels-least : (i .root ≡ 0 → ⊥) → 1 ≤ i .levels
 

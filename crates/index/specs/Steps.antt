@@ -16,7 +16,7 @@ use Rattle.index.specs.declared.entries.Descent.the-variants.{Read, Refu
 -- what reading entries asks: they are in the file, and an entry is a key of n bytes and its numbers
 pub record EntriesInside (x : List ℕ) (g : Shape) (n : ℕ) : Type 0 where
   pub sound : Sound x g
-  pub size : g .size ≡ n + entryNumbers
+  pub size : g .«record_size» ≡ n + entryNumbers
 
 -- the way down from index block b
 unfoldable pub descentOf : List ℕ → Shape → List ℕ → ℕ → Descent
@@ -25,6 +25,6 @@ descentOf x g key b = cond (eqb (entriesIn x g b) 0) Refused (Read (below x g ke
 -- what a walk asks behind the rules for headers
 pub record Walkable (t : List ℕ) (g : Shape) (x : List ℕ) (i : IndexHeader) (key : List ℕ) : Type 0 where
   pub sound : Sound t g
-  pub short : length key ≤ g .size
+  pub short : length key ≤ g .«record_size»
   pub entries : EntriesInside x (i .shape) (length key)
   pub few : i .levels ≤ mostLevels

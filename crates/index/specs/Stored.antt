@@ -8,8 +8,8 @@ use Rattle.index.specs.declared.stored.Stored.{Stored}
 unfoldable pub storedOf : List ℕ → Stored
 storedOf x =
     record {
-      size = word x 0x00;
-      header = word x 0x02;
+      «record_size» = word x 0x00;
+      «header_size» = word x 0x02;
       kind = byte x 0x04;
       units = byte x 0x05;
       blocks = word x 0x0C;

@@ -67,7 +67,7 @@ walkIndex t h x i key = cond (eqb (i .refusal) 0) (walkTree t (shapeOf h) x i ke
 
 -- 13 comes before those: no key fields, or another key length
 unfoldable pub walkKey : List ℕ → Header → List ℕ → List ℕ → Walked
-walkKey t h x key = cond (keyFits h key) (walkIndex t h x (indexOf x (h .key)) key) (refusedWalk badArgument)
+walkKey t h x key = cond (keyFits h key) (walkIndex t h x (indexOf x (h .«key_length»)) key) (refusedWalk badArgument)
 
 -- what walking answers, for any bytes and any key: 1 to 7 come first
 unfoldable pub walkOf : List ℕ → List ℕ → List ℕ → Walked

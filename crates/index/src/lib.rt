@@ -45,7 +45,7 @@ pub fn read(index: &[u8], key: u16) -> IndexHeader
     if !rules::limits_kept(s, key) {
         return refused(refusal::INDEX_LIMIT);
     }
-    if !header::is_length_right(index.len(), s.header, s.blocks, s.units) {
+    if !header::is_length_right(index.len(), s.header_size, s.blocks, s.units) {
         return refused(refusal::INDEX_LENGTH);
     }
     accepted(s)
@@ -58,10 +58,10 @@ fn refused(number: u8) -> IndexHeader
     IndexHeader {
         refusal: number,
         shape: Shape {
-            header: 0,
-            block: 0,
+            header_size: 0,
+            block_size: 0,
             blocks: 0,
-            size: 0,
+            record_size: 0,
         },
         root: 0,
         levels: 0,
@@ -76,10 +76,10 @@ fn accepted(s: Stored) -> IndexHeader
     IndexHeader {
         refusal: refusal::ACCEPTED,
         shape: Shape {
-            header: s.header,
-            block: header::block_bytes(s.units),
+            header_size: s.header_size,
+            block_size: header::block_bytes(s.units),
             blocks: s.blocks,
-            size: s.size,
+            record_size: s.record_size,
         },
         root: s.root,
         levels: s.levels,

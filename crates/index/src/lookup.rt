@@ -32,7 +32,7 @@ pub fn walk(table: &[u8], index: &[u8], key: &[u8]) -> Walked
     if !scan::key_fits(h, key) {
         return refused(refusal::BAD_ARGUMENT);
     }
-    let i = crate::read(index, h.key);
+    let i = crate::read(index, h.key_length);
     if i.refusal != refusal::ACCEPTED {
         return refused(i.refusal);
     }
@@ -82,7 +82,7 @@ fn walk_tree(table: &[u8], shape: Shape, index: &[u8], i: IndexHeader, key: &[u8
 
 // The end of a walk, in the data block that it has come to.
 fn find_in_data(table: &[u8], shape: Shape, block: usize, key: &[u8], reads: u8) -> Walked
-    requires { ⌜ Sound (now table) shape × (length (now key) ≤ shape .size) ⌝ }
+    requires { ⌜ Sound (now table) shape × (length (now key) ≤ shape .«record_size») ⌝ }
     ensures { λ r. ⌜ r ≡ inData (now (table .entry)) shape (now (key .entry)) block reads ⌝ }
 {
     if !blocks::has_block(shape, block) {

@@ -38,9 +38,9 @@ pub fn limits_kept(s: Stored, key: u16) -> bool
     ensures { λ r. ⌜ r ≡ limitsKept key s ⌝ }
 {
     let block = header::block_size(s.units);
-    let size = s.size as u32;
+    let size = s.record_size as u32;
     (size == key as u32 + ENTRY_NUMBERS)
-        & (LEAST_HEADER <= s.header)
+        & (LEAST_HEADER <= s.header_size)
         & (1 <= s.units)
         & (s.units <= header::MOST_UNITS)
         & (s.blocks <= header::MOST_BLOCKS)

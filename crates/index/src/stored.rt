@@ -24,8 +24,8 @@ const LEVELS: usize = 0x20;
 const VERSION: usize = 0x39;
 
 pub struct Stored {
-    pub size: u16,
-    pub header: u16,
+    pub record_size: u16,
+    pub header_size: u16,
     pub kind: u8,
     pub units: u8,
     pub blocks: u16,
@@ -40,8 +40,8 @@ pub fn read_stored(x: &[u8]) -> Stored
     ensures { λ r. ⌜ r ≡ storedOf (now (x .entry)) ⌝ }
 {
     Stored {
-        size: words::word(x, RECORD_SIZE),
-        header: words::word(x, HEADER_SIZE),
+        record_size: words::word(x, RECORD_SIZE),
+        header_size: words::word(x, HEADER_SIZE),
         kind: x[KIND],
         units: x[BLOCK_UNITS],
         blocks: words::word(x, BLOCKS),

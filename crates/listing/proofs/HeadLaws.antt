@@ -79,11 +79,11 @@ module _ (t s e : List ℕ) (n : ℕ) where
       let most : length (headOf t) ≤ 65536 = rw z (refused-most (listAnswer t)) in
       fulfils records (w .0) most (rw z (w .1)) (wrote-as is (w .2))
 
-  pub accepted-head : (h : Header) → h ≡ headerOf t → listAnswer t ≡ 0 → (length s ≡ 65536) × Wrote s 0 (headText (h .fields) (h .keys) (h .records)) e n → Heads t s e n (h .records)
+  pub accepted-head : (h : Header) → h ≡ headerOf t → listAnswer t ≡ 0 → (length s ≡ 65536) × Wrote s 0 (headText (h .fields) (h .«key_fields») (h .records)) e n → Heads t s e n (h .records)
   unfolding headOf listedCount
   accepted-head h same a w =
       let z = eq-eqb (listAnswer t) 0 a in
       let g = headerOf t in
-      let is : headText (h .fields) (h .keys) (h .records) ≡ headOf t = rw z (ap (λ (k : Header). headText (k .fields) (k .keys) (k .records)) same) in
-      let most : length (headOf t) ≤ 65536 = rw z (head-most (g .fields) (g .keys) (g .records)) in
+      let is : headText (h .fields) (h .«key_fields») (h .records) ≡ headOf t = rw z (ap (λ (k : Header). headText (k .fields) (k .«key_fields») (k .records)) same) in
+      let most : length (headOf t) ≤ 65536 = rw z (head-most (g .fields) (g .«key_fields») (g .records)) in
       fulfils (h .records) (w .0) most (rw z (ap (λ (k : Header). k .records) same)) (wrote-as is (w .1))

@@ -92,7 +92,7 @@ refusedText refusal = refusedWord ++ decimal refusal ++ newline ∷ []
 
 -- the first line
 unfoldable pub headOf : List ℕ → List ℕ
-headOf t = cond (eqb (listAnswer t) 0) (headText (headerOf t .fields) (headerOf t .keys) (headerOf t .records)) (refusedText (listAnswer t))
+headOf t = cond (eqb (listAnswer t) 0) (headText (headerOf t .fields) (headerOf t .«key_fields») (headerOf t .records)) (refusedText (listAnswer t))
 
 -- the records that are listed: none of a refused table
 unfoldable pub listed : List ℕ → List Position

@@ -45,7 +45,7 @@ pub fn head(table: &[u8], out: &mut [u8; 65536]) -> HeadLine
     if answer != refusal::ACCEPTED {
         return refused(answer, out);
     }
-    let len = put_head(out, h.fields, h.keys, h.records);
+    let len = put_head(out, h.fields, h.key_fields, h.records);
     HeadLine {
         len,
         records: h.records,

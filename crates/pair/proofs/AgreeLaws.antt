@@ -106,10 +106,10 @@ no-records : (ps : List Position) → eqb (length ps) 0 ≡ true → ps ≡ []
 no-records [] e = refl
 no-records (p ∷ ps) e = absurd (omega (arith, eqb-true (length (p ∷ ps)) 0 e))
 
-module _ (t : List ℕ) (h : Header) (x : List ℕ) (i : IndexHeader) (key : List ℕ) (a : AcceptedTable t h) (keyed : 1 ≤ h .keys) (size : length key ≡ h .key) where
+module _ (t : List ℕ) (h : Header) (x : List ℕ) (i : IndexHeader) (key : List ℕ) (a : AcceptedTable t h) (keyed : 1 ≤ h .«key_fields») (size : length key ≡ h .«key_length») where
   -- the keys of all records ascend, here by the length of the key sought
   ascending : Ascends t (shapeOf h) (length key) (recordsOf t h)
-  ascending = rw size (ascends-takes t (shapeOf h) (h .key) (recordsOf t h) (earlier-less t h a keyed))
+  ascending = rw size (ascends-takes t (shapeOf h) (h .«key_length») (recordsOf t h) (earlier-less t h a keyed))
 
   -- a root that is not 0
   rooted : rootFits t h x i ≡ true → walkFrom t (shapeOf h) x (i .shape) key (i .levels) (i .root) 0 .found ≡ firstWith t (shapeOf h) key (recordsOf t h)
@@ -117,7 +117,7 @@ module _ (t : List ℕ) (h : Header) (x : List ℕ) (i : IndexHeader) (key : Lis
   rooted e =
       let g = shapeOf h in
       let root : Entry = record { key = []; block = i .root } in
-      let p = both {a = fits x (i .shape) (h .key) (i .levels) (i .root)} {b = sameEntries (treeLeaves x (i .shape) (h .key) (i .levels) (i .root)) (firstKeys t g (h .key) (usedOf t h))} e in
+      let p = both {a = fits x (i .shape) (h .«key_length») (i .levels) (i .root)} {b = sameEntries (treeLeaves x (i .shape) (h .«key_length») (i .levels) (i .root)) (firstKeys t g (h .«key_length») (usedOf t h))} e in
       let s : leaves x (i .shape) (length key) (i .levels) root ≡ firstKeys t g (length key) (usedOf t h) = rw size (entries-gives _ _ (p .1)) in
       let r : recordsUnder t g (leaves x (i .shape) (length key) (i .levels) root) ≡ recordsOf t h = ap (recordsUnder t g) s ∙ under-first t g (length key) (usedOf t h) in
       agrees t g x (i .shape) key (i .levels) root 0 (rw size (p .0)) (rw s (first-leaves t g (length key) (h .first) (usedOf t h) (good-begins t h a))) (rw r ascending)

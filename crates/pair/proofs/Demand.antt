@@ -61,7 +61,7 @@ module _ (r : Found) (answers : (n : ℕ) → r ≡ Refused n → ⊥) where
 
 -- ---- an accepted pair, a table that the scan accepts with its own mark buffer, and a key of the key length
 
-module _ (t x key : List ℕ) (room room₂ : ℕ) (e : pairAnswer t x room ≡ 0) (table : tableAnswer t room₂ ≡ 0) (size : length key ≡ headerOf t .key) where
+module _ (t x key : List ℕ) (room room₂ : ℕ) (e : pairAnswer t x room ≡ 0) (table : tableAnswer t room₂ ≡ 0) (size : length key ≡ headerOf t .«key_length») where
   abbrev h : Header
   h = headerOf t
 
@@ -70,13 +70,13 @@ module _ (t x key : List ℕ) (room room₂ : ℕ) (e : pairAnswer t x room ≡ 
   fits = fits-takes h key (pair-parts t x room e .1) size
 
   -- the walk goes down the tree
-  walks-tree : walkOf t x key ≡ walkTree t (shapeOf h) x (indexOf x (h .key)) key
+  walks-tree : walkOf t x key ≡ walkTree t (shapeOf h) x (indexOf x (h .«key_length»)) key
   walks-tree = walk-tree t x key (accepted-takes t (table-gives t room₂ table .header)) fits (pair-parts t x room e .2)
 
   -- and comes to the first record with the key, as the scan does
   walk-scans : walkOf t x key .found ≡ scanOf t key room₂
   walk-scans =
-      rw walks-tree (walk-agrees t h x (indexOf x (h .key)) key (accepted-table t room₂ table) (pair-parts t x room e .1) size (pair-parts t x room e .3))
+      rw walks-tree (walk-agrees t h x (indexOf x (h .«key_length»)) key (accepted-table t room₂ table) (pair-parts t x room e .1) size (pair-parts t x room e .3))
       ∙ sym (scan-first t key room₂ table fits)
 
   -- the scan is no refusal
@@ -103,12 +103,12 @@ again : (t x : List ℕ) (room room₂ : ℕ) → pairAnswer t x room ≡ 0 → 
 again t x room room₂ e l = table-takes t room₂ (table-gives t room (pair-parts t x room e .0)) l
 
 -- the walk finds what the scan finds
-pub demand-3-found : (t x key : List ℕ) (room room₂ : ℕ) → pairAnswer t x room ≡ 0 → headerOf t .blocks ≤ room₂ → length key ≡ headerOf t .key →
+pub demand-3-found : (t x key : List ℕ) (room room₂ : ℕ) → pairAnswer t x room ≡ 0 → headerOf t .blocks ≤ room₂ → length key ≡ headerOf t .«key_length» →
     walkOf t x key .found ≡ scanOf t key room₂
 demand-3-found t x key room room₂ e l size = walk-scans t x key room room₂ e (again t x room room₂ e l) size
 
 -- the same by their numbers, and what they say of the records
-pub demand-3 : (t x key : List ℕ) (room room₂ : ℕ) → pairAnswer t x room ≡ 0 → headerOf t .blocks ≤ room₂ → length key ≡ headerOf t .key →
+pub demand-3 : (t x key : List ℕ) (room room₂ : ℕ) → pairAnswer t x room ≡ 0 → headerOf t .blocks ≤ room₂ → length key ≡ headerOf t .«key_length» →
     Agreement t (headerOf t) key (walkNumbers t x key .0) (scanLookup t key room₂)
 demand-3 t x key room room₂ e l size = agreement t x key room room₂ e (again t x room room₂ e l) size
 

@@ -128,7 +128,7 @@ module _ (t x : List ℕ) (s : Shapes) where
   gx = s .index
 
   abbrev n : ℕ
-  n = s .key
+  n = s .«key_length»
 
   -- the first i entries of index block b, whose blocks are at a level
   abbrev pub upTo : ℕ → ℕ → ℕ → ℕ → Fit

@@ -21,7 +21,7 @@ module _ (t x : List ℕ) (room : ℕ) where
   h = headerOf t
 
   abbrev i : IndexHeader
-  i = indexOf x (headerOf t .key)
+  i = indexOf x (headerOf t .«key_length»)
 
   -- ---- each law takes the rules before it as kept
 
@@ -32,34 +32,34 @@ module _ (t x : List ℕ) (room : ℕ) where
 
   module _ (accepted : tableAnswer t room ≡ 0) where
     -- 13
-    pub pair-unkeyed : h .keys ≡ 0 → pairAnswer t x room ≡ 13
+    pub pair-unkeyed : h .«key_fields» ≡ 0 → pairAnswer t x room ≡ 13
     unfolding pairAnswer keyedAnswer
-    pair-unkeyed z = rw (eq-eqb (tableAnswer t room) 0 accepted, lt-leb 1 (h .keys) (omega arith))
+    pair-unkeyed z = rw (eq-eqb (tableAnswer t room) 0 accepted, lt-leb 1 (h .«key_fields») (omega arith))
 
-    module _ (keyed : 1 ≤ h .keys) where
+    module _ (keyed : 1 ≤ h .«key_fields») where
       -- 21 to 26
       pub pair-index : (i .refusal ≡ 0 → ⊥) → pairAnswer t x room ≡ i .refusal
       unfolding pairAnswer keyedAnswer treeAnswer
-      pair-index ne = rw (eq-eqb (tableAnswer t room) 0 accepted, le-leb 1 (h .keys) keyed, ne-eqb (i .refusal) 0 ne)
+      pair-index ne = rw (eq-eqb (tableAnswer t room) 0 accepted, le-leb 1 (h .«key_fields») keyed, ne-eqb (i .refusal) 0 ne)
 
       module _ (indexed : i .refusal ≡ 0) where
         -- 27
         pub pair-unfit : treeFits t h x i ≡ false → pairAnswer t x room ≡ 27
         unfolding pairAnswer keyedAnswer treeAnswer
-        pair-unfit f = rw (eq-eqb (tableAnswer t room) 0 accepted, le-leb 1 (h .keys) keyed, eq-eqb (i .refusal) 0 indexed, f)
+        pair-unfit f = rw (eq-eqb (tableAnswer t room) 0 accepted, le-leb 1 (h .«key_fields») keyed, eq-eqb (i .refusal) 0 indexed, f)
 
         -- accepted
         pub pair-fits : treeFits t h x i ≡ true → pairAnswer t x room ≡ 0
         unfolding pairAnswer keyedAnswer treeAnswer
-        pair-fits f = rw (eq-eqb (tableAnswer t room) 0 accepted, le-leb 1 (h .keys) keyed, eq-eqb (i .refusal) 0 indexed, f)
+        pair-fits f = rw (eq-eqb (tableAnswer t room) 0 accepted, le-leb 1 (h .«key_fields») keyed, eq-eqb (i .refusal) 0 indexed, f)
 
   -- ---- an accepted pair keeps them all
 
-  pub pair-parts : pairAnswer t x room ≡ 0 → (tableAnswer t room ≡ 0) × (1 ≤ h .keys) × (i .refusal ≡ 0) × (treeFits t h x i ≡ true)
+  pub pair-parts : pairAnswer t x room ≡ 0 → (tableAnswer t room ≡ 0) × (1 ≤ h .«key_fields») × (i .refusal ≡ 0) × (treeFits t h x i ≡ true)
   unfolding pairAnswer keyedAnswer treeAnswer
   pair-parts e =
       let table = accepted-first (tableAnswer t room) (keyedAnswer t h x) e in
-      let keyed = kept-of (leb 1 (h .keys)) 12 (treeAnswer t h x i) (table .1) in
+      let keyed = kept-of (leb 1 (h .«key_fields»)) 12 (treeAnswer t h x i) (table .1) in
       let index = accepted-first (i .refusal) (cond (treeFits t h x i) 0 27) (keyed .1) in
       let tree = kept-of (treeFits t h x i) 26 0 (index .1) in
-      (table .0, leb-true 1 (h .keys) (keyed .0), index .0, tree .0)
+      (table .0, leb-true 1 (h .«key_fields») (keyed .0), index .0, tree .0)

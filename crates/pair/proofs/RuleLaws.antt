@@ -20,12 +20,12 @@ module _ (t x : List ℕ) (room : ℕ) where
       record {
         table = table-gives t room (p .0);
         keyed = p .1;
-        index = index-gives x (h .key) (p .2);
-        tree = tree-gives t h x (indexOf x (h .key)) (p .3);
+        index = index-gives x (h .«key_length») (p .2);
+        tree = tree-gives t h x (indexOf x (h .«key_length»)) (p .3);
       }
 
   -- a pair that meets the rules is accepted, where the mark buffer has a byte for each block of the table
   pub pair-takes : PairRules t x → headerOf t .blocks ≤ room → pairAnswer t x room ≡ 0
   pair-takes r l =
       let h = headerOf t in
-      pair-fits t x room (table-takes t room (r .table) l) (r .keyed) (index-takes x (h .key) (r .index)) (tree-takes t h x (indexOf x (h .key)) (r .tree))
+      pair-fits t x room (table-takes t room (r .table) l) (r .keyed) (index-takes x (h .«key_length») (r .index)) (tree-takes t h x (indexOf x (h .«key_length»)) (r .tree))

@@ -28,7 +28,7 @@ module _ (t : List ℕ) (h : Header) (x : List ℕ) (i : IndexHeader) (p : Paire
   -- another root; g is the table's shape as it was read
   module _ (g : Shape) (e : g ≡ shapeOf h) where
     abbrev s : Shapes
-    s = record { table = g; index = i .shape; key = h .key }
+    s = record { table = g; index = i .shape; «key_length» = h .«key_length» }
 
     pub descendable : Descendable t x s (h .first)
     unfolding shapeOf
@@ -42,7 +42,7 @@ module _ (t : List ℕ) (h : Header) (x : List ℕ) (i : IndexHeader) (p : Paire
     abbrev down : Fit
     down = blockFrom t x s (i .levels) (i .root) (h .first)
 
-    tree-by : (i .root ≡ 0 → ⊥) → treeFits t h x i ≡ isEnd t g (h .key) down
+    tree-by : (i .root ≡ 0 → ⊥) → treeFits t h x i ≡ isEnd t g (h .«key_length») down
     unfolding treeFits rootFits shapeOf
     tree-by ne = rw (ne-eqb (i .root) 0 ne) (sym (tree-ends t x s (i .levels) (i .root) (h .first) (descendable .followed .chain) ∙ rw e))
 

@@ -85,27 +85,27 @@ keys-none t g n (b ∷ bs) e = rw (eq-eqb (held (countIn t g b)) 0 (omega arith)
 
 module _ (t : List ℕ) (h : Header) (x : List ℕ) (i : IndexHeader) where
   abbrev found : List Entry
-  found = treeLeaves x (i .shape) (h .key) (i .levels) (i .root)
+  found = treeLeaves x (i .shape) (h .«key_length») (i .levels) (i .root)
 
   abbrev wanted : List Entry
-  wanted = firstKeys t (shapeOf h) (h .key) (usedOf t h)
+  wanted = firstKeys t (shapeOf h) (h .«key_length») (usedOf t h)
 
   -- a root that is not 0
   root-gives : rootFits t h x i ≡ true → RootedTree t h x i
   unfolding rootFits
   root-gives e =
-      let p = both {a = fits x (i .shape) (h .key) (i .levels) (i .root)} {b = sameEntries found wanted} e in
-      record { fitting = fits-gives x (i .shape) (h .key) (i .levels) (i .root) (p .0); leaves-right = entries-gives found wanted (p .1) }
+      let p = both {a = fits x (i .shape) (h .«key_length») (i .levels) (i .root)} {b = sameEntries found wanted} e in
+      record { fitting = fits-gives x (i .shape) (h .«key_length») (i .levels) (i .root) (p .0); leaves-right = entries-gives found wanted (p .1) }
 
   root-takes : RootedTree t h x i → rootFits t h x i ≡ true
   unfolding rootFits
-  root-takes r = join (fits-takes x (i .shape) (h .key) (i .levels) (i .root) (r .fitting)) (entries-takes found wanted (r .leaves-right))
+  root-takes r = join (fits-takes x (i .shape) (h .«key_length») (i .levels) (i .root) (r .fitting)) (entries-takes found wanted (r .leaves-right))
 
   -- a tree below a root that is not 0 has level 1 entries, and so the table has records
   records-some : RootedTree t h x i → length (recordsOf t h) ≡ 0 → ⊥
   records-some r e =
-      let some : 1 ≤ length found = leaves-some x (i .shape) (h .key) (i .levels) (record { key = []; block = i .root }) (r .fitting) in
-      let none : wanted ≡ [] = keys-none t (shapeOf h) (h .key) (usedOf t h) (sym (records-total t (shapeOf h) (usedOf t h)) ∙ e) in
+      let some : 1 ≤ length found = leaves-some x (i .shape) (h .«key_length») (i .levels) (record { key = []; block = i .root }) (r .fitting) in
+      let none : wanted ≡ [] = keys-none t (shapeOf h) (h .«key_length») (usedOf t h) (sym (records-total t (shapeOf h) (usedOf t h)) ∙ e) in
       not-suc-le-zero (rw (r .leaves-right ∙ none) at some)
 
   -- any root: 0 exactly when there are no records

@@ -26,8 +26,8 @@ emptyFits t h = eqb (length (recordsOf t h)) 0
 -- that block's first key
 unfoldable pub rootFits : List ℕ → Header → List ℕ → IndexHeader → Bool
 rootFits t h x i =
-    fits x (i .shape) (h .key) (i .levels) (i .root)
-    && sameEntries (treeLeaves x (i .shape) (h .key) (i .levels) (i .root)) (firstKeys t (shapeOf h) (h .key) (usedOf t h))
+    fits x (i .shape) (h .«key_length») (i .levels) (i .root)
+    && sameEntries (treeLeaves x (i .shape) (h .«key_length») (i .levels) (i .root)) (firstKeys t (shapeOf h) (h .«key_length») (usedOf t h))
 
 -- 27: the tree fits
 unfoldable pub treeFits : List ℕ → Header → List ℕ → IndexHeader → Bool
@@ -39,7 +39,7 @@ treeAnswer t h x i = cond (eqb (i .refusal) 0) (firstBroken (treeFits t h x i) i
 
 -- 13 comes before them: no key fields
 unfoldable pub keyedAnswer : List ℕ → Header → List ℕ → ℕ
-keyedAnswer t h x = firstBroken (leb 1 (h .keys)) badArgument (treeAnswer t h x (indexOf x (h .key)))
+keyedAnswer t h x = firstBroken (leb 1 (h .«key_fields»)) badArgument (treeAnswer t h x (indexOf x (h .«key_length»)))
 
 -- what checking a pair answers, for any bytes and a mark buffer of `room` bytes: the table check comes first
 unfoldable pub pairAnswer : List ℕ → List ℕ → ℕ → ℕ

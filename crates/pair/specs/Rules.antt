@@ -45,8 +45,8 @@ Fits x g n (suc level) b = GoodBlock x g n b (λ (e : Entry). Fits x g n level (
 
 -- a tree below a root that is not 0, over a table
 pub record RootedTree (t : List ℕ) (h : Header) (x : List ℕ) (i : IndexHeader) : Type 0 where
-  pub fitting : Fits x (i .shape) (h .key) (i .levels) (i .root)
-  pub leaves-right : treeLeaves x (i .shape) (h .key) (i .levels) (i .root) ≡ firstKeys t (shapeOf h) (h .key) (usedOf t h)
+  pub fitting : Fits x (i .shape) (h .«key_length») (i .levels) (i .root)
+  pub leaves-right : treeLeaves x (i .shape) (h .«key_length») (i .levels) (i .root) ≡ firstKeys t (shapeOf h) (h .«key_length») (usedOf t h)
 
 -- the tree of an index over a table
 pub record TreeRules (t : List ℕ) (h : Header) (x : List ℕ) (i : IndexHeader) : Type 0 where
@@ -58,9 +58,9 @@ pub record TreeRules (t : List ℕ) (h : Header) (x : List ℕ) (i : IndexHeader
 -- the table's rules, 13, 21 to 26, and 27
 pub record PairRules (t x : List ℕ) : Type 0 where
   pub table : TableRules t
-  pub keyed : 1 ≤ headerOf t .keys
-  pub index : IndexRules x (headerOf t .key)
-  pub tree : TreeRules t (headerOf t) x (indexOf x (headerOf t .key))
+  pub keyed : 1 ≤ headerOf t .«key_fields»
+  pub index : IndexRules x (headerOf t .«key_length»)
+  pub tree : TreeRules t (headerOf t) x (indexOf x (headerOf t .«key_length»))
 
 -- ---- demand 3
 
@@ -76,4 +76,4 @@ pub record Agreement (t : List ℕ) (h : Header) (key : List ℕ) (walked scanne
 
 -- the same of both lookups' answers: where the pair is accepted and the key has the table's key length, they agree
 abbrev pub Agreeing : List ℕ → List ℕ → LookedUp → Type 0
-Agreeing t key r = r .pair ≡ 0 → length key ≡ headerOf t .key → Agreement t (headerOf t) key (numbersOf (r .walk) .0) (lookupOf (r .scan))
+Agreeing t key r = r .pair ≡ 0 → length key ≡ headerOf t .«key_length» → Agreement t (headerOf t) key (numbersOf (r .walk) .0) (lookupOf (r .scan))

@@ -55,26 +55,26 @@ module _ (t x : List ℕ) (s : Shapes) where
   -- an entry whose block is at a level: it fits, and its level 1 entries are the next ones expected
   unfoldable pub entryFrom : ℕ → Entry → ℕ → Fit
   entryFrom level e c =
-      cond (fits x (s .index) (s .key) level (e .block) && keyRight x (s .index) (s .key) level e)
-      (follow t (s .table) (s .key) (leaves x (s .index) (s .key) level e) c) Unfit
+      cond (fits x (s .index) (s .«key_length») level (e .block) && keyRight x (s .index) (s .«key_length») level e)
+      (follow t (s .table) (s .«key_length») (leaves x (s .index) (s .«key_length») level e) c) Unfit
 
   -- an index block at a level: the same
   unfoldable pub blockFrom : ℕ → ℕ → ℕ → Fit
   blockFrom level b c =
-      cond (fits x (s .index) (s .key) level b)
-      (follow t (s .table) (s .key) (treeLeaves x (s .index) (s .key) level b) c) Unfit
+      cond (fits x (s .index) (s .«key_length») level b)
+      (follow t (s .table) (s .«key_length») (treeLeaves x (s .index) (s .«key_length») level b) c) Unfit
 
   -- a level 1 entry, whose key stands at an offset and which names a block
   abbrev pub leafFrom : ℕ → ℕ → ℕ → Fit
-  leafFrom at named c = follow t (s .table) (s .key) (record { key = range x at (s .key); block = named } ∷ []) c
+  leafFrom at named c = follow t (s .table) (s .«key_length») (record { key = range x at (s .«key_length»); block = named } ∷ []) c
 
   -- what going down a tree asks, where the chain of the table is at number c
   pub record Descendable (c : ℕ) : Type 0 where
     pub followed : Followed t (s .table) c
-    pub short : s .key ≤ s .table .size
-    pub entries : EntriesInside x (s .index) (s .key)
+    pub short : s .«key_length» ≤ s .table .«record_size»
+    pub entries : EntriesInside x (s .index) (s .«key_length»)
 
 -- what judging a tree asks: an accepted table, and an index that is accepted for its key length
 pub record Paired (t : List ℕ) (h : Header) (x : List ℕ) (i : IndexHeader) : Type 0 where
   pub table : AcceptedTable t h
-  pub index : AcceptedIndex x (h .key) i
+  pub index : AcceptedIndex x (h .«key_length») i

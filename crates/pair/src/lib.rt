@@ -35,10 +35,10 @@ pub fn check(table: &[u8], index: &[u8], marks: &mut [u8]) -> u8
     if answer != refusal::ACCEPTED {
         return answer;
     }
-    if h.keys == 0 {
+    if h.key_fields == 0 {
         return refusal::BAD_ARGUMENT;
     }
-    let i = index::read(index, h.key);
+    let i = index::read(index, h.key_length);
     if i.refusal != refusal::ACCEPTED {
         return i.refusal;
     }
@@ -61,7 +61,7 @@ fn tree_fits(table: &[u8], h: Header, index: &[u8], i: IndexHeader) -> bool
     let shapes = Shapes {
         table: table_shape,
         index: index_shape,
-        key: h.key,
+        key_length: h.key_length,
     };
     let root = i.root as usize;
     let Fit::Next(rest) = tree::block_fits(table, index, shapes, i.levels, root, h.first as usize)

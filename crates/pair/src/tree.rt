@@ -15,7 +15,7 @@ use chain::next_of;
 pub struct Shapes {
     pub table: Shape,
     pub index: Shape,
-    pub key: u16,
+    pub key_length: u16,
 }
 
 // Where the used chain is when a part of the tree has been read, or that the part does not fit.
@@ -52,7 +52,7 @@ fn leaf_fits(
     named: usize,
     from: usize,
 ) -> Fit
-    requires { ⌜ Descendable (now table) (now index) shapes from × (at + shapes .key ≤ length (now index)) ⌝ }
+    requires { ⌜ Descendable (now table) (now index) shapes from × (at + shapes .«key_length» ≤ length (now index)) ⌝ }
     ensures { λ r. ⌜ r ≡ leafFrom (now (table .entry)) (now (index .entry)) shapes at named from ⌝ }
 {
     let block = first_holding(table, shapes.table, from);
@@ -63,7 +63,7 @@ fn leaf_fits(
         return Fit::Unfit;
     }
     let first = blocks::record_at(shapes.table, block, 0);
-    if !words::compare(index, at, table, first, shapes.key as usize).is_same() {
+    if !words::compare(index, at, table, first, shapes.key_length as usize).is_same() {
         return Fit::Unfit;
     }
     Fit::Next(next_of(table, shapes.table, block))
@@ -109,9 +109,9 @@ fn entry_fits(
     from: usize,
 ) -> Fit
     requires { ⌜ Descendable (now table) (now index) shapes from × (i < entriesIn (now index) (shapes .index) block) ⌝ }
-    ensures { λ r. ⌜ r ≡ entryFrom (now (table .entry)) (now (index .entry)) shapes level (entryAt (now (index .entry)) (shapes .index) (shapes .key) block i) from ⌝ }
+    ensures { λ r. ⌜ r ≡ entryFrom (now (table .entry)) (now (index .entry)) shapes level (entryAt (now (index .entry)) (shapes .index) (shapes .«key_length») block i) from ⌝ }
 {
-    let key = shapes.key as usize;
+    let key = shapes.key_length as usize;
     let at = blocks::record_at(shapes.index, block, i as usize);
     let named = index::block_named(index, at + key) as usize;
     if level == 0 {

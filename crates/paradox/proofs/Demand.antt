@@ -23,7 +23,7 @@ no-refusal : (l : Lookup) (reads : ℕ) → l .refusal ≡ 0 → refusalIn (pack
 unfolding packed refusalIn
 no-refusal l reads e = omega (arith, e)
 
-module _ (t x key : List ℕ) (room room₂ : ℕ) (pair : pairAnswer t x room ≡ 0) (marks : headerOf t .blocks ≤ room₂) (size : length key ≡ headerOf t .key) where
+module _ (t x key : List ℕ) (room room₂ : ℕ) (pair : pairAnswer t x room ≡ 0) (marks : headerOf t .blocks ≤ room₂) (size : length key ≡ headerOf t .«key_length») where
   abbrev walked : ℕ
   walked = packed (walkNumbers t x key .0) (walkNumbers t x key .1)
 

@@ -97,7 +97,7 @@ module _ (t key : List ℕ) (room : ℕ) (e : tableAnswer t room ≡ 0) (f : key
   scanned : Scanned (scanOf t key room)
   scanned = go (looked t (shapeOf h) key (recordsOf t h))
     where
-      size : length key ≡ h .key
+      size : length key ≡ h .«key_length»
       size = fits-gives h key f .1
 
       first : scanOf t key room ≡ firstWith t (shapeOf h) key (recordsOf t h)

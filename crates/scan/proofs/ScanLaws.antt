@@ -23,15 +23,15 @@ use Rattle.scan.specs.Steps.{Searchable, recordsFrom}
 use Rattle.scan.specs.declared.found.Found.{Found}
 use Rattle.scan.specs.declared.found.Found.the-variants.{Refused}
 
-pub fits-gives : (h : Header) (key : List ℕ) → keyFits h key ≡ true → (1 ≤ h .keys) × (length key ≡ h .key)
+pub fits-gives : (h : Header) (key : List ℕ) → keyFits h key ≡ true → (1 ≤ h .«key_fields») × (length key ≡ h .«key_length»)
 unfolding keyFits
 fits-gives h key e =
-    let p = both {a = leb 1 (h .keys)} {b = eqb (length key) (h .key)} e in
-    (leb-true 1 (h .keys) (p .0), eqb-true (length key) (h .key) (p .1))
+    let p = both {a = leb 1 (h .«key_fields»)} {b = eqb (length key) (h .«key_length»)} e in
+    (leb-true 1 (h .«key_fields») (p .0), eqb-true (length key) (h .«key_length») (p .1))
 
-pub fits-takes : (h : Header) (key : List ℕ) → 1 ≤ h .keys → length key ≡ h .key → keyFits h key ≡ true
+pub fits-takes : (h : Header) (key : List ℕ) → 1 ≤ h .«key_fields» → length key ≡ h .«key_length» → keyFits h key ≡ true
 unfolding keyFits
-fits-takes h key keyed long = join (le-leb 1 (h .keys) keyed) (eq-eqb (length key) (h .key) long)
+fits-takes h key keyed long = join (le-leb 1 (h .«key_fields») keyed) (eq-eqb (length key) (h .«key_length») long)
 
 module _ (t key : List ℕ) (room : ℕ) where
   pub scan-refused : (tableAnswer t room ≡ 0 → ⊥) → scanOf t key room ≡ Refused (tableAnswer t room)

@@ -13,4 +13,4 @@ pub record HasKey (t : List ℕ) (h : Header) (key : List ℕ) (p : Position) : 
   pub index : ℕ
   pub inside : index < length (recordsOf t h)
   pub there : getD (recordsOf t h) index p ≡ p
-  pub same : keyAt t (shapeOf h) (h .key) p ≡ key
+  pub same : keyAt t (shapeOf h) (h .«key_length») p ≡ key

@@ -25,7 +25,7 @@ firstWith t g key (p ∷ ps) =
 
 -- 13: the table has key fields, and the key sought has the key length
 unfoldable pub keyFits : Header → List ℕ → Bool
-keyFits h key = leb 1 (h .keys) && eqb (length key) (h .key)
+keyFits h key = leb 1 (h .«key_fields») && eqb (length key) (h .«key_length»)
 
 -- 13, or the first such record among those of a table in chain order
 unfoldable pub scanIn : List ℕ → Header → List ℕ → Found

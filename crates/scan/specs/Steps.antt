@@ -16,5 +16,5 @@ recordsFrom t g b = recordsIn t g (chainFrom (nextOf t g) (g .blocks) b)
 -- what looking through a chain asks: it ends, its counts are good, and a key is no longer than a record
 pub record Searchable (t : List ℕ) (g : Shape) (b : ℕ) (key : List ℕ) : Type 0 where
   pub sound : Sound t g
-  pub short : length key ≤ g .size
+  pub short : length key ≤ g .«record_size»
   pub chain : GoodChain t g b (chainFrom (nextOf t g) (g .blocks) b)

@@ -39,7 +39,7 @@ pub fn find(table: &[u8], key: &[u8], marks: &mut [u8]) -> Found
 pub fn key_fits(h: Header, key: &[u8]) -> bool
     ensures { λ r. ⌜ r ≡ keyFits h (now (key .entry)) ⌝ }
 {
-    (1 <= h.keys) & (key.len() == h.key as usize)
+    (1 <= h.key_fields) & (key.len() == h.key_length as usize)
 }
 
 // The first record with a key in the blocks of a chain.

@@ -28,7 +28,7 @@ chains-wrong t h r e f m =
 
 -- the used chain, where no block has a mark
 module _ (t : List ℕ) (h : Header) (m₀ : List ℕ) (unmarked : m₀ ≡ replicate (h .blocks) 0) (r : UsedChain) (m₁ : List ℕ)
-    (w : UsedFollowed t (shapeOf h) (h .key) (h .first) m₀ r m₁) where
+    (w : UsedFollowed t (shapeOf h) (h .«key_length») (h .first) m₀ r m₁) where
   abbrev no-marks : List ℕ
   no-marks = replicate (h .blocks) 0
 
@@ -41,7 +41,7 @@ module _ (t : List ℕ) (h : Header) (m₀ : List ℕ) (unmarked : m₀ ≡ repl
   stored : r .whole ≡ true → m₁ ≡ marked 1 (usedOf t h) no-marks
   stored e = rw (unmarked, length-replicate) at (w .stored e)
 
-  tallied : r .whole ≡ true → r .tally ≡ foldl (addBlock t (shapeOf h) (h .key)) nothing (usedOf t h)
+  tallied : r .whole ≡ true → r .tally ≡ foldl (addBlock t (shapeOf h) (h .«key_length»)) nothing (usedOf t h)
   tallied e = rw (unmarked, length-replicate) at (w .tallied e)
 
   -- a block that may not be taken, or another last block

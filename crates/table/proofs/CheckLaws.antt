@@ -31,14 +31,14 @@ module _ (t : List ℕ) (h : Header) where
   chains-kept e = rw e
 
   -- without key fields the key length is 0
-  keyless : Accepted t h → h .keys ≡ 0 → h .key ≡ 0
+  keyless : Accepted t h → h .«key_fields» ≡ 0 → h .«key_length» ≡ 0
   unfolding widthSum
   keyless a e = a .key-length ∙ rw e
 
   -- the tally of the used blocks answers for the rules
-  pub records-answered : Accepted t h → tableChained t h ≡ true → tallyAnswer (foldl (addBlock t (shapeOf h) (h .key)) nothing (usedOf t h)) (h .records) ≡ rulesAnswer t h
+  pub records-answered : Accepted t h → tableChained t h ≡ true → tallyAnswer (foldl (addBlock t (shapeOf h) (h .«key_length»)) nothing (usedOf t h)) (h .records) ≡ rulesAnswer t h
   unfolding rulesAnswer countsRight sumFits keysAscend
-  records-answered a e = tally-answer t (shapeOf h) (h .key) (usedOf t h) (h .keys) (a .key-least) (keyless a) (h .records) ∙ rw e
+  records-answered a e = tally-answer t (shapeOf h) (h .«key_length») (usedOf t h) (h .«key_fields») (a .key-least) (keyless a) (h .records) ∙ rw e
 
   -- ---- 14
 

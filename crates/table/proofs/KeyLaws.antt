@@ -115,7 +115,7 @@ module _ (t : List ℕ) (g : Shape) (key : ℕ) where
 -- ---- where records and keys stand
 
 -- the records that a block counts are inside the table
-pub run-inside : (t : List ℕ) (g : Shape) → Sound t g → (b : ℕ) → 1 ≤ b → b ≤ g .blocks → (n : ℕ) → countIn t g b ≡ Records n → (key : ℕ) → key ≤ g .size → n < 65536 → RunInside t g key b n
+pub run-inside : (t : List ℕ) (g : Shape) → Sound t g → (b : ℕ) → 1 ≤ b → b ≤ g .blocks → (n : ℕ) → countIn t g b ≡ Records n → (key : ℕ) → key ≤ g .«record_size» → n < 65536 → RunInside t g key b n
 run-inside t g s b low high n e key short few = record { low = low; high = high; few = few; short = short; inside = record-in-file t g s b n e low high }
 
 pub last-inside : (t : List ℕ) (key at : ℕ) → KeyInside t key (Last at) → at + key ≤ length t

@@ -60,16 +60,16 @@ blocks-give t h room e = records-give t h (kept-of (leb (h .blocks) room) 13 (ru
 
 -- ---- the tests are the propositions
 
-keys-give : (t : List ℕ) (h : Header) → keysAscend t h (usedOf t h) ≡ true → 1 ≤ h .keys → Ascending (keysOf t h)
+keys-give : (t : List ℕ) (h : Header) → keysAscend t h (usedOf t h) ≡ true → 1 ≤ h .«key_fields» → Ascending (keysOf t h)
 unfolding keysAscend
-keys-give t h e l = ascend-gives (keysOf t h) (rw (le-leb 1 (h .keys) l) at e)
+keys-give t h e l = ascend-gives (keysOf t h) (rw (le-leb 1 (h .«key_fields») l) at e)
 
-keys-take : (t : List ℕ) (h : Header) → (1 ≤ h .keys → Ascending (keysOf t h)) → keysAscend t h (usedOf t h) ≡ true
+keys-take : (t : List ℕ) (h : Header) → (1 ≤ h .«key_fields» → Ascending (keysOf t h)) → keysAscend t h (usedOf t h) ≡ true
 unfolding keysAscend
-keys-take t h k = go (leb 1 (h .keys)) refl
+keys-take t h k = go (leb 1 (h .«key_fields»)) refl
   where
-    go : (b : Bool) → leb 1 (h .keys) ≡ b → cond b (ascend (keysOf t h)) true ≡ true
-    go true e = ascend-takes (keysOf t h) (k (leb-true 1 (h .keys) e))
+    go : (b : Bool) → leb 1 (h .«key_fields») ≡ b → cond b (ascend (keysOf t h)) true ≡ true
+    go true e = ascend-takes (keysOf t h) (k (leb-true 1 (h .«key_fields») e))
     go false e = refl
 
 module _ (t : List ℕ) (room : ℕ) where

@@ -115,7 +115,7 @@ module _ (t : List ℕ) (g : Shape) (key : ℕ) where
   -- ---- what stays so from block to block
 
   -- a block adds at most 65,535 records
-  pub records-more : (s : Tally) (b : ℕ) → Sound t g → g .block ≤ 65535 → addBlock t g key s b .records ≤ s .records + 65535
+  pub records-more : (s : Tally) (b : ℕ) → Sound t g → g .«block_size» ≤ 65535 → addBlock t g key s b .records ≤ s .records + 65535
   unfolding addBlock addCount uncounted
   records-more s b w h = go (s .counted) (countIn t g b) refl
     where
@@ -125,7 +125,7 @@ module _ (t : List ℕ) (g : Shape) (key : ℕ) where
       go false n e = omega arith
 
   -- the last key passed is inside the table
-  pub key-stays : (s : Tally) (b : ℕ) → Sound t g → 1 ≤ b → b ≤ g .blocks → key ≤ g .size → KeyInside t key (s .keys) → KeyInside t key (addBlock t g key s b .keys)
+  pub key-stays : (s : Tally) (b : ℕ) → Sound t g → 1 ≤ b → b ≤ g .blocks → key ≤ g .«record_size» → KeyInside t key (s .keys) → KeyInside t key (addBlock t g key s b .keys)
   unfolding addBlock addCount uncounted
   key-stays s b w low high short k = go (s .counted) (countIn t g b) refl
     where

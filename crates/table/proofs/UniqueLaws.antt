@@ -27,17 +27,17 @@ any-default (x ∷ xs) (suc i) c d l = any-default xs i c d (le-of-suc-le-suc l)
 key-there : (t : List ℕ) (g : Shape) (n : ℕ) (ps : List Position) (i : ℕ) (d : Position) → i < length ps → getD (map (keyAt t g n) ps) i [] ≡ keyAt t g n (getD ps i d)
 key-there t g n ps i d l = any-default (map (keyAt t g n) ps) i [] (keyAt t g n d) (rw length-map l) ∙ List·getD-map (keyAt t g n) ps i d
 
-module _ (t : List ℕ) (h : Header) (a : AcceptedTable t h) (keyed : 1 ≤ h .keys) where
+module _ (t : List ℕ) (h : Header) (a : AcceptedTable t h) (keyed : 1 ≤ h .«key_fields») where
   -- the key of record i
   abbrev key : ℕ → Position → List ℕ
-  key i d = keyAt t (shapeOf h) (h .key) (getD (recordsOf t h) i d)
+  key i d = keyAt t (shapeOf h) (h .«key_length») (getD (recordsOf t h) i d)
 
   -- of two records the earlier has the lesser key
   pub earlier-less : (i j : ℕ) (c d : Position) → i < j → j < length (recordsOf t h) → order (key i c) (key j d) ≡ Less
   earlier-less i j c d l m =
       let k : i < length (recordsOf t h) = omega arith in
       let n : j < length (keysOf t h) = rw length-map m in
-      rw (← (key-there t (shapeOf h) (h .key) (recordsOf t h) i c k), ← (key-there t (shapeOf h) (h .key) (recordsOf t h) j d m)) (a .ascending keyed i j l n)
+      rw (← (key-there t (shapeOf h) (h .«key_length») (recordsOf t h) i c k), ← (key-there t (shapeOf h) (h .«key_length») (recordsOf t h) j d m)) (a .ascending keyed i j l n)
 
   apart : (i j : ℕ) (c d : Position) → i < j → j < length (recordsOf t h) → key i c ≡ key j d → ⊥
   apart i j c d l m e = less≢same (sym (earlier-less i j c d l m) ∙ ap (λ (k : List ℕ). order k (key j d)) e ∙ order-refl (key j d))

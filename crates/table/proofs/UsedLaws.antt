@@ -50,7 +50,7 @@ module _ (t : List ℕ) (g : Shape) (key first : ℕ) (m₀ : List ℕ) where
       pub room-here : tally .records + 65535 ≤ 4294967295
       room-here = omega (arith, fewer m b 1 (unmarked-gives m b here) (omega arith), w .small, a .few, a .long)
 
-      pub follow-on : g .block ≤ 65535 → (b ≡ 0 → ⊥) → previousOf t g b ≡ before → Following (set m (b - 1) 1) (addBlock t g key tally b) b (nextOf t g b)
+      pub follow-on : g .«block_size» ≤ 65535 → (b ≡ 0 → ⊥) → previousOf t g b ≡ before → Following (set m (b - 1) 1) (addBlock t g key tally b) b (nextOf t g b)
       follow-on h ne named =
           record {
             going = step (nextOf t g) (names (previousOf t g)) 1 (addBlock t g key) nothing whole m₀ m tally before b ne (omega arith) here (eq-eqb (previousOf t g b) before named) (w .going);

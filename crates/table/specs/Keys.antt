@@ -20,7 +20,7 @@ keysIn t g n bs = map (keyAt t g n) (recordsIn t g bs)
 
 -- the keys of a table's records, in chain order
 abbrev pub keysOf : List ℕ → Header → List (List ℕ)
-keysOf t h = keysIn t (shapeOf h) (h .key) (usedOf t h)
+keysOf t h = keysIn t (shapeOf h) (h .«key_length») (usedOf t h)
 
 -- each key is less than the one after it; a key stands before the first
 unfoldable pub ascendFrom : List ℕ → List (List ℕ) → Bool
@@ -34,4 +34,4 @@ ascend (key ∷ keys) = ascendFrom key keys
 
 -- 10: with key fields, the keys of all records of the used blocks strictly ascend; the key length is the header's
 unfoldable pub keysAscend : List ℕ → Header → List ℕ → Bool
-keysAscend t h used = cond (leb 1 (h .keys)) (ascend (keysIn t (shapeOf h) (h .key) used)) true
+keysAscend t h used = cond (leb 1 (h .«key_fields»)) (ascend (keysIn t (shapeOf h) (h .«key_length») used)) true

@@ -46,7 +46,7 @@ pub record TableRules (t : List ℕ) : Type 0 where
   -- 16: they add up to at most 2,147,483,647
   pub few : total t (shapeOf (headerOf t)) used ≤ mostRecords
   -- 10: with key fields, the keys of all records in chain order strictly ascend
-  pub keys : 1 ≤ headerOf t .keys → Ascending (keysIn t (shapeOf (headerOf t)) (headerOf t .key) used)
+  pub keys : 1 ≤ headerOf t .«key_fields» → Ascending (keysIn t (shapeOf (headerOf t)) (headerOf t .«key_length») used)
 
 -- what an accepted table gives the crates above
 pub record AcceptedTable (t : List ℕ) (h : Header) : Type 0 where
@@ -62,7 +62,7 @@ pub record AcceptedTable (t : List ℕ) (h : Header) : Type 0 where
   pub sum : total t (shapeOf h) (usedOf t h) ≡ h .records
   pub records : length (recordsOf t h) ≡ h .records
   -- with key fields, of any two records the earlier has the lesser key
-  pub ascending : 1 ≤ h .keys → (i j : ℕ) → i < j → j < length (keysOf t h) → order (getD (keysOf t h) i []) (getD (keysOf t h) j []) ≡ Less
+  pub ascending : 1 ≤ h .«key_fields» → (i j : ℕ) → i < j → j < length (keysOf t h) → order (getD (keysOf t h) i []) (getD (keysOf t h) j []) ≡ Less
 
 -- ---- the mark buffer m by the answer
 

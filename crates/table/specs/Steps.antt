@@ -61,8 +61,8 @@ pub record RunInside (t : List ℕ) (g : Shape) (key b n : ℕ) : Type 0 where
   pub low : 1 ≤ b
   pub high : b ≤ g .blocks
   pub few : n < 65536
-  pub short : key ≤ g .size
-  pub inside : (i : ℕ) → i < n → recordAt g b i + g .size ≤ length t
+  pub short : key ≤ g .«record_size»
+  pub inside : (i : ℕ) → i < n → recordAt g b i + g .«record_size» ≤ length t
 
 -- ---- blocks
 
@@ -104,7 +104,7 @@ pub record GoodChain (t : List ℕ) (g : Shape) (b : ℕ) (bs : List ℕ) : Type
 -- what following the used chain asks: a mark for each block, and a key that is part of its record
 pub record Followable (t : List ℕ) (g : Shape) (key : ℕ) (m : List ℕ) : Type 0 where
   pub sound : Sound t g
-  pub short : key ≤ g .size
+  pub short : key ≤ g .«record_size»
   pub few : g .blocks ≤ mostBlocks
   pub long : length m ≡ g .blocks
 
@@ -129,4 +129,4 @@ pub record Markable (t : List ℕ) (h : Header) (m : List ℕ) : Type 0 where
 pub record ChainsMarked (t : List ℕ) (h : Header) (r : Chains) (m′ : List ℕ) : Type 0 where
   pub judged : r .right ≡ tableChained t h
   pub stored : r .right ≡ true → m′ ≡ marksOf (h .blocks) (usedOf t h)
-  pub tallied : r .right ≡ true → r .tally ≡ foldl (addBlock t (shapeOf h) (h .key)) nothing (usedOf t h)
+  pub tallied : r .right ≡ true → r .tally ≡ foldl (addBlock t (shapeOf h) (h .«key_length»)) nothing (usedOf t h)

@@ -21,7 +21,7 @@ pub fn mark_chains(table: &[u8], h: Header, marks: &mut [u8]) -> Chains
     ensures { λ r. ⌜ ChainsMarked (now (table .entry)) h r (now (marks .exit)) ⌝ }
 {
     let shape = blocks::shape_of(h);
-    let used = follow_used(table, shape, h.key as usize, h.first as usize, marks);
+    let used = follow_used(table, shape, h.key_length as usize, h.first as usize, marks);
     let tally = used.tally;
     let right = used.whole & (used.last == h.last as usize);
     if !right {

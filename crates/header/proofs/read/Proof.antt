@@ -53,7 +53,7 @@ verdict5 d = rw (d .before .before .before .before .before .before .before .befo
 kept5 : (e : tie.Else5) → limitsKept (storedOf (T (e .before .before .before .before .before .before .before .before .before))) ≡ true
 kept5 e = sym (verdict5 (e .before)) ∙ not-false _ (e .if5 .left)
 
-verdict6 : (d : tie.After-is-length-right) → d .is-length-right .result ≡ (let s = storedOf (T (d .before .before .before .before .before .before .before .before .before .before)) in lengthRight (length (T (d .before .before .before .before .before .before .before .before .before .before))) (s .header) (s .blocks) (s .units))
+verdict6 : (d : tie.After-is-length-right) → d .is-length-right .result ≡ (let s = storedOf (T (d .before .before .before .before .before .before .before .before .before .before)) in lengthRight (length (T (d .before .before .before .before .before .before .before .before .before .before))) (s .«header_size») (s .blocks) (s .units))
 verdict6 d = rw (d .before .before .before .before .before .before .before .before .before .before .read-stored .ensures) at (d .is-length-right .ensures)
 
 -- ---- what is known after rule 5
@@ -77,7 +77,7 @@ module _ (e5 : tie.Else5) where
   few : R .read-stored .result .fields ≤ 255
   few = rw (R .read-stored .ensures) (limits .fields-most)
 
-room : (d : tie.After-has-room) → d .has-room .result ≡ ltb (namesAt (storedOf (T (R (d .before .before))))) (storedOf (T (R (d .before .before))) .header)
+room : (d : tie.After-has-room) → d .has-room .result ≡ ltb (namesAt (storedOf (T (R (d .before .before))))) (storedOf (T (R (d .before .before))) .«header_size»)
 room d = rw (R (d .before .before) .read-stored .ensures) at (d .has-room .ensures)
 
 -- ---- and after rule 6
@@ -89,10 +89,10 @@ module _ (e : tie.Else6) where
   abbrev T6 : List ℕ
   T6 = T (R E5)
 
-  kept6 : lengthRight (length T6) (storedOf T6 .header) (storedOf T6 .blocks) (storedOf T6 .units) ≡ true
+  kept6 : lengthRight (length T6) (storedOf T6 .«header_size») (storedOf T6 .blocks) (storedOf T6 .units) ≡ true
   kept6 = sym (verdict6 (e .before .before)) ∙ not-false _ (e .if6 .left)
 
-  whole : length T6 ≡ storedOf T6 .header + storedOf T6 .blocks * blockSize (storedOf T6)
+  whole : length T6 ≡ storedOf T6 .«header_size» + storedOf T6 .blocks * blockSize (storedOf T6)
   unfolding lengthRight
   whole = eqb-true _ _ kept6
 

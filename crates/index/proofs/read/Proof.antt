@@ -44,7 +44,7 @@ verdict25 d = rw (d .before .before .before .before .before .read-stored .ensure
 kept25 : (e : tie.Else4) → limitsKept (N (e .before .before .before .before .before .before)) (storedOf (X (e .before .before .before .before .before .before))) ≡ true
 kept25 e = sym (verdict25 (e .before)) ∙ not-false _ (e .if4 .left)
 
-verdict26 : (d : tie.After-is-length-right) → let s = storedOf (X (d .before .before .before .before .before .before .before)) in d .is-length-right .result ≡ lengthRight (length (X (d .before .before .before .before .before .before .before))) (s .header) (s .blocks) (s .units)
+verdict26 : (d : tie.After-is-length-right) → let s = storedOf (X (d .before .before .before .before .before .before .before)) in d .is-length-right .result ≡ lengthRight (length (X (d .before .before .before .before .before .before .before))) (s .«header_size») (s .blocks) (s .units)
 verdict26 d = rw (d .before .before .before .before .before .before .before .read-stored .ensures) at (d .is-length-right .ensures)
 
 -- ---- the answers

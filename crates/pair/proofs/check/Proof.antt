@@ -87,17 +87,17 @@ returns-3 : tie.Need-returns-3
 returns-3 c =
     let a = c .before .before in
     let d = D a in
-    (sym (pair-unkeyed (T d) (X d) (length (M d)) (taken a) (ap (λ (h : Header). h .keys) (sym (header d)) ∙ c .if3 .taken)), answered (A a) .1)
+    (sym (pair-unkeyed (T d) (X d) (length (M d)) (taken a) (ap (λ (h : Header). h .«key_fields») (sym (header d)) ∙ c .if3 .taken)), answered (A a) .1)
 
-keyed : (c : tie.Else3) → 1 ≤ headerOf (T (D (c .before .before))) .keys
-keyed c = let d = D (c .before .before) in pos-of-ne-zero (λ z. c .if3 .left (ap (λ (h : Header). h .keys) (header d) ∙ z))
+keyed : (c : tie.Else3) → 1 ≤ headerOf (T (D (c .before .before))) .«key_fields»
+keyed c = let d = D (c .before .before) in pos-of-ne-zero (λ z. c .if3 .left (ap (λ (h : Header). h .«key_fields») (header d) ∙ z))
 
 read-requires-2 : tie.Need-read-requires-2
 read-requires-2 c κs = search needs
 
 -- the index's header is read for the table's key length
-index : (c : tie.After-read2) → let d = D (c .before .before .before) in c .read2 .result ≡ indexOf (X d) (headerOf (T d) .key)
-index c = let d = D (c .before .before .before) in c .read2 .ensures ∙ ap (λ (h : Header). indexOf (X d) (h .key)) (header d)
+index : (c : tie.After-read2) → let d = D (c .before .before .before) in c .read2 .result ≡ indexOf (X d) (headerOf (T d) .«key_length»)
+index c = let d = D (c .before .before .before) in c .read2 .ensures ∙ ap (λ (h : Header). indexOf (X d) (h .«key_length»)) (header d)
 
 same-length-3 : tie.Need-same-length-3
 same-length-3 c = search needs
@@ -113,7 +113,7 @@ returns-4 c =
       answered (A a) .1,
     )
 
-kept : (c : tie.Else4) → let d = D (c .before .before .before .before .before) in indexOf (X d) (headerOf (T d) .key) .refusal ≡ 0
+kept : (c : tie.Else4) → let d = D (c .before .before .before .before .before) in indexOf (X d) (headerOf (T d) .«key_length») .refusal ≡ 0
 kept c = ap (λ (i : IndexHeader). i .refusal) (sym (index (c .before .before))) ∙ c .if4 .left
 
 tree-fits-requires : tie.Need-tree-fits-requires
@@ -121,9 +121,9 @@ tree-fits-requires c κs =
     let r = c .before .before in
     let a = r .before .before .before in
     let d = D a in
-    rw (header d, index r) (record { table = accepted-table (T d) (length (M d)) (taken a); index = accepted-index (X d) (headerOf (T d) .key) (kept c) })
+    rw (header d, index r) (record { table = accepted-table (T d) (length (M d)) (taken a); index = accepted-index (X d) (headerOf (T d) .«key_length») (kept c) })
 
-verdict : (c : tie.After-tree-fits) → let r = c .before .before .before in let d = D (r .before .before .before) in treeFits (T d) (headerOf (T d)) (X d) (indexOf (X d) (headerOf (T d) .key)) ≡ c .tree-fits .result
+verdict : (c : tie.After-tree-fits) → let r = c .before .before .before in let d = D (r .before .before .before) in treeFits (T d) (headerOf (T d)) (X d) (indexOf (X d) (headerOf (T d) .«key_length»)) ≡ c .tree-fits .result
 verdict c = let r = c .before .before .before in let d = D (r .before .before .before) in sym (c .tree-fits .ensures ∙ ap (λ (h : Header). treeFits (T d) h (X d) (r .read2 .result)) (header d) ∙ ap (treeFits (T d) (headerOf (T d)) (X d)) (index r))
 
 same-length-4 : tie.Need-same-length-4

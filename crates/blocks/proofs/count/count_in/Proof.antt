@@ -36,7 +36,7 @@ unfolding countIn
 returns c =
     let v = c .before .before .before .before .args in
     c .count-of .ensures
-    ∙ ap (λ (n : ℕ). countOf (v .shape .block) (v .shape .size) (signed 32768 n)) (c .before .word .ensures ∙ ap (λ (a : ℕ). word (v .file .now) (a + 4)) (c .before .before .block-at .ensures))
+    ∙ ap (λ (n : ℕ). countOf (v .shape .«block_size») (v .shape .«record_size») (signed 32768 n)) (c .before .word .ensures ∙ ap (λ (a : ℕ). word (v .file .now) (a + 4)) (c .before .before .block-at .ensures))
 
 pub count-in-spec : {M : Type 1} → statement M
 count-in-spec =

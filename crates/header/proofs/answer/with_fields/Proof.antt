@@ -30,7 +30,7 @@ O k = k .add-widths .last .1 .1 .1 .1 .0
 few : (k : tie.After-add-widths) → S k .fields ≤ 255
 few k = k .before .before .before .before .before .before .before .before .pre .fields-most
 
-pairs : (k : tie.After-add-widths) → k .add-widths .result ≡ each (pairRight (T k) (areaAt (S k .version)) (S k .keys)) (S k .fields)
+pairs : (k : tie.After-add-widths) → k .add-widths .result ≡ each (pairRight (T k) (areaAt (S k .version)) (S k .«key_fields»)) (S k .fields)
 pairs k = rw (k .before .before .before .before .before .before .area-at .ensures) at (k .add-widths .ensures .0)
 
 right : (d : tie.Else1) → d .before .add-widths .result ≡ true
@@ -44,7 +44,7 @@ total d =
     let k = d .before in
     ap (λ (l : List ℕ). getD l (S k .fields) 0) (sums d) ∙ (offset-at (T k) (areaAt (S k .version)) (S k .fields) (S k .fields) (few k) (omega arith))
 
-names : (f : tie.After-names-fit) → f .names-fit .result ≡ namesFit (T (f .before .before .before .before)) (S (f .before .before .before .before) .header) (S (f .before .before .before .before) .fields) (namesAt (S (f .before .before .before .before)))
+names : (f : tie.After-names-fit) → f .names-fit .result ≡ namesFit (T (f .before .before .before .before)) (S (f .before .before .before .before) .«header_size») (S (f .before .before .before .before) .fields) (namesAt (S (f .before .before .before .before)))
 names f = rw (f .before .before .before .before .before .before .before .before .before .names-at .ensures) at (f .names-fit .ensures)
 
 area-at-requires : tie.Need-area-at-requires

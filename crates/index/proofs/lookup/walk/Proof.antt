@@ -70,8 +70,8 @@ read-requires-2 : tie.Need-read-requires-2
 read-requires-2 c κs = search needs
 
 -- the index's header is read for the table's key length
-index : (c : tie.After-read2) → let d = c .before .before .before in c .read2 .result ≡ indexOf (X d) (headerOf (T d) .key)
-index c = let d = c .before .before .before in c .read2 .ensures ∙ ap (λ (h : Header). indexOf (X d) (h .key)) (header d)
+index : (c : tie.After-read2) → let d = c .before .before .before in c .read2 .result ≡ indexOf (X d) (headerOf (T d) .«key_length»)
+index c = let d = c .before .before .before in c .read2 .ensures ∙ ap (λ (h : Header). indexOf (X d) (h .«key_length»)) (header d)
 
 refused-requires-3 : tie.Need-refused-requires-3
 refused-requires-3 c κs = search needs
@@ -84,7 +84,7 @@ returns-3 c =
     walks (T d) (X d) (K d) (c .refused3 .result)
     (c .refused3 .ensures ∙ ap (λ (k : IndexHeader). refusedWalk (k .refusal)) i ∙ sym (index-refused (T d) (X d) (K d) (zero d) (fits e) (λ z. c .before .if3 .taken (ap (λ (k : IndexHeader). k .refusal) i ∙ z))))
 
-kept : (c : tie.Else3) → let d = c .before .before .before .before .before in indexOf (X d) (headerOf (T d) .key) .refusal ≡ 0
+kept : (c : tie.Else3) → let d = c .before .before .before .before .before in indexOf (X d) (headerOf (T d) .«key_length») .refusal ≡ 0
 kept c = ap (λ (i : IndexHeader). i .refusal) (sym (index (c .before .before))) ∙ c .if3 .left
 
 returns-4 : tie.Need-returns-4

@@ -164,7 +164,7 @@ module _ (t : ℕ) where
     C = c .before .before .before .before .args .from
 
     abbrev E : Entry
-    E = entryAt X (S .index) (S .key) (c .before .before .before .before .args .block) (c .before .before .before .before .args .i)
+    E = entryAt X (S .index) (S .«key_length») (c .before .before .before .before .args .block) (c .before .before .before .before .args .i)
 
     asked : Descendable T X S C
     asked = c .before .before .before .before .pre .1 .0
@@ -172,8 +172,8 @@ module _ (t : ℕ) where
     place : c .record-at .result ≡ recordAt (S .index) (c .before .before .before .before .args .block) (c .before .before .before .before .args .i)
     place = c .record-at .ensures
 
-    inside : c .record-at .result + S .key + 6 ≤ length X
-    inside = omega (arith, place, entry-inside X (S .index) (c .before .before .before .before .args .block) (S .key) (c .before .before .before .before .args .i) (asked .entries) (c .before .before .before .before .pre .1 .1))
+    inside : c .record-at .result + S .«key_length» + 6 ≤ length X
+    inside = omega (arith, place, entry-inside X (S .index) (c .before .before .before .before .args .block) (S .«key_length») (c .before .before .before .before .args .i) (asked .entries) (c .before .before .before .before .pre .1 .1))
 
   add-block-named : entry-lts.Need-add-block-named entry-calls entry-at entry-reads.Post
   add-block-named c = let i = inside c in search needs
@@ -239,14 +239,14 @@ module _ (t : ℕ) where
   compare-requires c κs =
       let k = c .before in
       let r = R k in
-      let i = entry-inside (X r) (S r .index) (k .before .before .before .before .before .block-named .result) (S r .key) 0 (asked r .entries) (some k) in
+      let i = entry-inside (X r) (S r .index) (k .before .before .before .before .before .block-named .result) (S r .«key_length») 0 (asked r .entries) (some k) in
       (omega (arith, inside r), omega (arith, i, c .record-at2 .ensures))
 
   is-same-requires : entry-lts.Need-is-same-requires entry-calls entry-at entry-reads.Post
   is-same-requires c κs = search needs
 
   -- the test of its key is the definition's
-  tested : (c : entry-lts.After-is-same entry-calls entry-at entry-reads.Post) → let r = R (c .before .before .before) in isSame (order (E r .key) (entryKey (X r) (S r .index) (S r .key) (E r .block) 0)) ≡ c .is-same .result
+  tested : (c : entry-lts.After-is-same entry-calls entry-at entry-reads.Post) → let r = R (c .before .before .before) in isSame (order (E r .key) (entryKey (X r) (S r .index) (S r .«key_length») (E r .block) 0)) ≡ c .is-same .result
   tested c =
       let k = c .before .before .before in
       let r = R k in

@@ -28,7 +28,7 @@ module _ (r : tie.After-first-holding) where
   G = r .before .before .before .args .shapes .table
 
   abbrev N : ℕ
-  N = r .before .before .before .args .shapes .key
+  N = r .before .before .before .args .shapes .«key_length»
 
   abbrev C : ℕ
   C = r .before .before .before .args .from

@@ -63,7 +63,7 @@ module _ (c : tie.After-follow-used) where
   no-marks : M₀ ≡ replicate (H .blocks) 0
   no-marks = c .before .before .before .before .before .before .before .pre .no-marks
 
-  followed : UsedFollowed T (shapeOf H) (H .key) (H .first) M₀ R M₁
+  followed : UsedFollowed T (shapeOf H) (H .«key_length») (H .first) M₀ R M₁
   followed = rw (c .before .before .before .before .shape-of .ensures) at (c .follow-used .ensures)
 
 same-length : tie.Need-same-length

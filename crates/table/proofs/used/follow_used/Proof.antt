@@ -49,7 +49,7 @@ returns c =
     (c .broken .result) (c .broken .ensures) (l .marks)
 
 -- a block's size is a word
-word-sized : (c : tie.Start Inv-loop μ-loop) → c .args .shape .block ≤ 65535
+word-sized : (c : tie.Start Inv-loop μ-loop) → c .args .shape .«block_size» ≤ 65535
 word-sized c = search needs
 
 -- where the block has no mark
