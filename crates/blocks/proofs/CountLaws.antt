@@ -13,20 +13,23 @@ use borrow.Author.Tests.{eq-eqb, ne-eqb, le-leb, lt-leb, eqb-true, leb-true}
 use Rattle.words.proofs.SignedLaws.{signed-below, signed-from}
 use Rattle.words.specs.Numbers.{word}
 use Rattle.words.specs.Signed.{signed}
-use Rattle.blocks.specs.Shape.{blockAt, recordAt, Sound}
+use Rattle.blocks.specs.Shape.{blockAt, recordAt, Sound, RunInside}
 use Rattle.blocks.specs.Counts.{countOf, countIn}
 use Rattle.blocks.specs.declared.Shape.{Shape}
 use Rattle.blocks.proofs.ShapeLaws.{block-inside}
+use Rattle.blocks.specs.declared.count.Count.{Count}
 use Rattle.blocks.specs.declared.count.Count.the-variants.{Records, Bad}
 
 -- ---- one law for each answer, of a word read as signed
 
 module _ (block size last : ℕ) where
-  pub count-none : 32768 ≤ last → last < 65536 → 65536 - last ≡ size → Records 0 ≡ countOf block size (signed 32768 last)
+  pub count-none : 32768 ≤ last → last < 65536 → 65536 - last ≡ size →
+      Records 0 ≡ countOf block size (signed 32768 last)
   unfolding countOf
   count-none h l e = rw (signed-from 32768 last h, eq-eqb (suc (65536 - suc last)) size (omega arith))
 
-  pub count-negative : 32768 ≤ last → last < 65536 → (65536 - last ≡ size → ⊥) → Bad ≡ countOf block size (signed 32768 last)
+  pub count-negative : 32768 ≤ last → last < 65536 → (65536 - last ≡ size → ⊥) →
+      Bad ≡ countOf block size (signed 32768 last)
   unfolding countOf
   count-negative h l e = rw (signed-from 32768 last h, ne-eqb (suc (65536 - suc last)) size (λ f. e (omega arith)))
 
@@ -34,13 +37,20 @@ module _ (block size last : ℕ) where
   unfolding countOf
   count-between h e = rw (signed-below 32768 last h, ne-eqb (last % size) 0 e)
 
-  pub count-beyond : last < 32768 → last % size ≡ 0 → block - 6 < last + size → Bad ≡ countOf block size (signed 32768 last)
+  pub count-beyond : last < 32768 → last % size ≡ 0 → block - 6 < last + size →
+      Bad ≡ countOf block size (signed 32768 last)
   unfolding countOf
   count-beyond h e l = rw (signed-below 32768 last h, eq-eqb (last % size) 0 e, lt-leb (last + size) (block - 6) l)
 
-  pub count-some : last < 32768 → last % size ≡ 0 → last + size ≤ block - 6 → Records (last / size + 1) ≡ countOf block size (signed 32768 last)
+  pub count-some : last < 32768 → last % size ≡ 0 → last + size ≤ block - 6 →
+      Records (last / size + 1) ≡ countOf block size (signed 32768 last)
   unfolding countOf
   count-some h e l = rw (signed-below 32768 last h, eq-eqb (last % size) 0 e, le-leb (last + size) (block - 6) l)
+
+-- a count that is not bad is one of records
+pub not-bad-records : (c : Count) → (c ≡ Bad → ⊥) → (n : ℕ) × (c ≡ Records n)
+not-bad-records (Records n) h = (n, refl)
+not-bad-records Bad h = absurd (h refl)
 
 -- ---- the records counted
 
@@ -54,7 +64,8 @@ count-most block size (negsuc d) n h e = go (eqb (suc d) size) e
     go false f = let z : _≡_ {A = ℕ} 0 1 = cc in absurd (omega arith)
 count-most block size (pos m) n h e = go (eqb (m % size) 0 && leb (m + size) (block - 6)) refl e
   where
-    go : (b : Bool) → (eqb (m % size) 0 && leb (m + size) (block - 6)) ≡ b → cond b (Records (m / size + 1)) Bad ≡ Records n → 6 + n * size ≤ block
+    go : (b : Bool) → (eqb (m % size) 0 && leb (m + size) (block - 6)) ≡ b →
+        cond b (Records (m / size + 1)) Bad ≡ Records n → 6 + n * size ≤ block
     go true f k =
         let p = both {a = eqb (m % size) 0} {b = leb (m + size) (block - 6)} f in
         let z : m / size + 1 ≡ n = cc in
@@ -68,7 +79,9 @@ count-most block size (pos m) n h e = go (eqb (m % size) 0 && leb (m + size) (bl
 module _ (t : List ℕ) (g : Shape) (s : Sound t g) (b n : ℕ) (e : countIn t g b ≡ Records n) where
   records-fit : 6 + n * g .«record_size» ≤ g .«block_size»
   unfolding countIn
-  records-fit = count-most (g .«block_size») (g .«record_size») (signed 32768 (word t (blockAt g b + 4))) n (omega (arith, s .size-most)) e
+  records-fit =
+      count-most (g .«block_size») (g .«record_size») (signed 32768 (word t (blockAt g b + 4))) n
+      (omega (arith, s .size-most)) e
 
   pub record-inside : (i : ℕ) → i < n → recordAt g b i + g .«record_size» ≤ blockAt g b + g .«block_size»
   record-inside i l = omega (arith, records-fit, mul-le-mul-right (g .«record_size») l)
@@ -80,3 +93,10 @@ module _ (t : List ℕ) (g : Shape) (s : Sound t g) (b n : ℕ) (e : countIn t g
   -- a block counts no more records than it has bytes
   pub count-few : n ≤ g .«block_size»
   count-few = omega (arith, records-fit, mul-le-mul-left n (s .size-least))
+
+-- ---- the records that a block counts are inside the file
+pub run-inside : (t : List ℕ) (g : Shape) → Sound t g → (b : ℕ) → 1 ≤ b → b ≤ g .blocks → (n : ℕ) →
+    countIn t g b ≡ Records n →
+    (key : ℕ) → key ≤ g .«record_size» → n < 65536 → RunInside t g key b n
+run-inside t g s b low high n e key short few =
+    record { low = low; high = high; few = few; short = short; inside = record-in-file t g s b n e low high }

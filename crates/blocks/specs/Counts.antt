@@ -12,8 +12,8 @@ use Rattle.blocks.specs.declared.Shape.{Shape}
 use Rattle.blocks.specs.declared.count.Count.{Count}
 use Rattle.blocks.specs.declared.count.Count.the-variants.{Records, Bad}
 
--- the count by the offset of the last record: minus the record size is none; else a multiple of the record size, at least 0, whose
--- record ends inside the block. negsuc d is -(d + 1)
+-- the count by the offset of the last record: minus the record size is none; else a multiple of the record size, at
+-- least 0, whose record ends inside the block. negsuc d is -(d + 1)
 unfoldable pub countOf : ℕ → ℕ → ℤ → Count
 countOf block size (negsuc d) = cond (eqb (suc d) size) (Records 0) Bad
 countOf block size (pos n) = cond (eqb (n % size) 0 && leb (n + size) (block - blockHead)) (Records (n / size + 1)) Bad

@@ -26,24 +26,24 @@ pub enum Count {
 
 // The count by the offset of the last record. A helper: its caller has judged that the record size is not
 // 0 and that a block has room for a head.
-pub fn count_of(last: u16, size: u16, block: u16) -> Count
-    requires { ⌜ (1 ≤ size) × (blockHead ≤ block) ⌝ }
-    ensures { λ r. ⌜ r ≡ countOf block size (signed (half 2) last) ⌝ }
+pub fn count_of(last: u16, record_size: u16, block_size: u16) -> Count
+    requires { ⌜ (1 ≤ «record_size») × (blockHead ≤ «block_size») ⌝ }
+    ensures { λ r. ⌜ r ≡ countOf «block_size» «record_size» (signed (half 2) last) ⌝ }
 {
     if LEAST_NEGATIVE <= last {
-        if WORD_VALUES - last as u32 == size as u32 {
+        if WORD_VALUES - last as u32 == record_size as u32 {
             return Count::Records(0);
         }
         return Count::Bad;
     }
-    if last % size != 0 {
+    if last % record_size != 0 {
         return Count::Bad;
     }
-    let room = block as usize - BLOCK_HEAD;
-    if room < last as usize + size as usize {
+    let room = block_size as usize - BLOCK_HEAD;
+    if room < last as usize + record_size as usize {
         return Count::Bad;
     }
-    Count::Records(last / size + 1)
+    Count::Records(last / record_size + 1)
 }
 
 // The count of a block of a file. A helper: its caller has judged the file's sizes and found the block in it.

@@ -38,11 +38,15 @@ fields-not s (suc x) t h = rw (eq-eqb (suc x) 2047 h) (last (eqb t 0))
 
 finite-below : (b : ℕ) → b % 9223372036854775808 < 9218868437227405312 → finite (ofBits binary64 b) ≡ true
 unfolding ofBits
-finite-below b h = fields-finite (leb 9223372036854775808 b) (b % 9223372036854775808 / 4503599627370496) (b % 4503599627370496) (omega arith)
+finite-below b h =
+    fields-finite (leb 9223372036854775808 b) (b % 9223372036854775808 / 4503599627370496) (b % 4503599627370496)
+    (omega arith)
 
 finite-from : (b : ℕ) → 9218868437227405312 ≤ b % 9223372036854775808 → finite (ofBits binary64 b) ≡ false
 unfolding ofBits
-finite-from b h = fields-not (leb 9223372036854775808 b) (b % 9223372036854775808 / 4503599627370496) (b % 4503599627370496) (omega arith)
+finite-from b h =
+    fields-not (leb 9223372036854775808 b) (b % 9223372036854775808 / 4503599627370496) (b % 4503599627370496)
+    (omega arith)
 
 -- without the sign, finite bits are those below 7FF0 and six zero bytes
 pub finite-is : (b : ℕ) → ltb (b % 9223372036854775808) 9218868437227405312 ≡ finite (ofBits binary64 b)
@@ -72,7 +76,8 @@ not-nan nan h = true≢false h
 not-nan (inf s) h = tt
 not-nan (fin s m e) h = tt
 
-zero-bits : (n : ℕ) → n ≡ 0 → 9223372036854775808 + (size n - 53) * 4503599627370496 + n / 2 ^ (size n - 53) ≡ 9223372036854775808
+zero-bits : (n : ℕ) → n ≡ 0
+    → 9223372036854775808 + (size n - 53) * 4503599627370496 + n / 2 ^ (size n - 53) ≡ 9223372036854775808
 unfolding size
 zero-bits n e = rw e
 
@@ -82,7 +87,8 @@ unfolding minusZero toBits
 minus-bits nan h = absurd (true≢false (sym h))
 minus-bits (inf s) h = absurd (true≢false (sym h))
 minus-bits (fin false m e) h = absurd (true≢false (sym h))
-minus-bits (fin true m e) h = zero-bits (m * up e * 2 ^ 1074 / down e) (rw (eqb-true m 0 h, zero-mul) (zero-div (down e)))
+minus-bits (fin true m e) h =
+    zero-bits (m * up e * 2 ^ 1074 / down e) (rw (eqb-true m 0 h, zero-mul) (zero-div (down e)))
 
 module _ (x : Float) (f : fits binary64 x ≡ true) where
   back : ofBits binary64 (toBits binary64 x) ≡ x

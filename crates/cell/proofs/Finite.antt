@@ -1,5 +1,5 @@
--- No number that isn't finite gets through: none is read, none is written, and a cell that stores one is refused with 11.
--- Assumes nothing.
+-- No number that isn't finite gets through: none is read, none is written, and a cell that stores one is refused with
+-- 11. Assumes nothing.
 use mathlib.Core.Path.{_≡_, refl, sym, ap, _∙_}
 use mathlib.Core.Bool.{Bool, true, false, cond, not, _&&_, true≢false}
 use borrow.Author.Tests.{eqb-true}
@@ -22,8 +22,10 @@ use Rattle.header.specs.Kinds.{kindOf, isBlob, Permitted}
 use Rattle.header.specs.declared.kind.StoredKind.the-variants.{Kind}
 use Rattle.header.specs.declared.kind.FieldKind.{FieldKind}
 use Rattle.header.specs.declared.kind.FieldKind.the-variants as Kin
+use Rattle.header.specs.declared.Header.{Header}
+use Rattle.header.specs.Numbers.{numbersOf}
 use Rattle.cell.specs.Values.{number}
-use Rattle.cell.specs.Reading.{signedAt, doubleAt, numberCell, valueAt, cellAt, cellOf}
+use Rattle.cell.specs.Reading.{signedAt, doubleAt, numberCell, valueAt, cellAt, cellOf, Stands}
 use Rattle.cell.specs.Writing.{none, bytes, minusZero, numberForm, formOf, ofKind, putForm, writeOf}
 use Rattle.cell.specs.declared.value.Value.the-variants as Val
 use Rattle.cell.specs.declared.value.Cell.the-variants.{Is, Refused}
@@ -38,38 +40,57 @@ module _ (x : Float) where
   -- by the kind: the other kinds read as other cases
   value-finite : (kind : FieldKind) (s : List ℕ) (at w : ℕ) → valueAt kind s at w ≡ Is (Val.Number x) → finite x ≡ true
   unfolding valueAt
-  value-finite Kin.Text s at w h = let q = read-text s at w (beforeZero s at w) (Val.Number x) h .0 in let z : _≡_ {A = ℕ} 0 1 = cc in absurd (omega arith)
-  value-finite Kin.Date s at w h = let q = read-date (signedAt s at w) (Val.Number x) h .1 in let z : _≡_ {A = ℕ} 0 1 = cc in absurd (omega arith)
+  value-finite Kin.Text s at w h =
+      let q = read-text s at w (beforeZero s at w) (Val.Number x) h .0 in
+      let z : _≡_ {A = ℕ} 0 1 = cc in
+      absurd (omega arith)
+  value-finite Kin.Date s at w h =
+      let q = read-date (signedAt s at w) (Val.Number x) h .1 in
+      let z : _≡_ {A = ℕ} 0 1 = cc in
+      absurd (omega arith)
   value-finite Kin.Short s at w h = let z : _≡_ {A = ℕ} 0 1 = cc in absurd (omega arith)
   value-finite Kin.Long s at w h = let z : _≡_ {A = ℕ} 0 1 = cc in absurd (omega arith)
   value-finite Kin.Number s at w h =
       let q = read-number (doubleAt s at w) (Val.Number x) h in
       let e : x ≡ doubleAt s at w = let k = q .0 in cc in
       ap finite e ∙ q .1
-  value-finite Kin.Logical s at w h = let q = read-logical (big s at w) (Val.Number x) h .1 in let z : _≡_ {A = ℕ} 0 1 = cc in absurd (omega arith)
+  value-finite Kin.Logical s at w h =
+      let q = read-logical (big s at w) (Val.Number x) h .1 in
+      let z : _≡_ {A = ℕ} 0 1 = cc in
+      absurd (omega arith)
   value-finite Kin.Blob s at w h = no-cell h
 
   cell-finite : (kind : FieldKind) (s : List ℕ) (at w : ℕ) → cellAt kind s at w ≡ Is (Val.Number x) → finite x ≡ true
   cell-finite kind s at w h =
       ⊎-elim
-      (λ (c : (allZero s at w ≡ true) × (Val.Number x ≡ Val.Blank)). let e = c .1 in let z : _≡_ {A = ℕ} 0 1 = cc in absurd (omega arith))
+      (λ (c : (allZero s at w ≡ true) × (Val.Number x ≡ Val.Blank)).
+      let e = c .1 in
+      let z : _≡_ {A = ℕ} 0 1 = cc in
+      absurd (omega arith))
       (λ (c : (allZero s at w ≡ false) × (valueAt kind s at w ≡ Is (Val.Number x))). value-finite kind s at w (c .1))
       (read-as kind s at w (Val.Number x) h .1)
 
+  -- a number that stands in a table is finite
+  pub stands-finite : (t : List ℕ) (h : Header) (b p f : ℕ) → Stands t h b p f (Val.Number x) → finite x ≡ true
+  stands-finite t h b p f s = cell-finite (s .kind) t (s .at) (s .width) (s .means)
+
   -- a number that is read is finite
   pub read-finite : (t : List ℕ) (b p f : ℕ) → cellOf t b p f ≡ Is (Val.Number x) → finite x ≡ true
-  read-finite t b p f h = let s = stands t b p f (Val.Number x) h in cell-finite (s .kind) t (s .at) (s .width) (s .means)
+  read-finite t b p f e = stands-finite t (numbersOf t) b p f (stands t b p f (Val.Number x) e)
 
   form-finite : (w : ℕ) (s : List ℕ) → numberForm w x ≡ bytes s → finite x ≡ true
   unfolding numberForm
   form-finite w s h = go (finite x && not (minusZero x)) refl h
     where
-      go : (t : Bool) → (finite x && not (minusZero x)) ≡ t → cond t (bytes (digits w (complemented (half w) (lib.Ieee.toBits lib.Ieee.binary64 x)))) none ≡ bytes s → finite x ≡ true
+      go : (t : Bool) → (finite x && not (minusZero x)) ≡ t
+          → cond t (bytes (digits w (complemented (half w) (lib.Ieee.toBits lib.Ieee.binary64 x)))) none ≡ bytes s
+          → finite x ≡ true
       go true e k = both {a = finite x} {b = not (minusZero x)} e .0
       go false e k = no-form k
 
   -- a number that is written is finite
-  pub written-finite : (code w : ℕ) (buffer out : List ℕ) → writeOf code w (number x) buffer ≡ (0, out) → finite x ≡ true
+  pub written-finite : (code w : ℕ) (buffer out : List ℕ) → writeOf code w (number x) buffer ≡ (0, out)
+      → finite x ≡ true
   unfolding formOf
   written-finite code w buffer out h = let r = wrote code w (number x) buffer out h in form-finite w (r .1) (r .6)
 
@@ -83,7 +104,8 @@ zeros-finite s at w e z =
     low = rw (complemented-below (half 8) 0 (omega arith))
 
 -- a number cell that stores no finite number is refused with 11
-pub infinite-refused : (s : List ℕ) (at w : ℕ) → Permitted Kin.Number w → finite (doubleAt s at w) ≡ false → cellAt Kin.Number s at w ≡ Refused noMeaning
+pub infinite-refused : (s : List ℕ) (at w : ℕ) → Permitted Kin.Number w → finite (doubleAt s at w) ≡ false
+    → cellAt Kin.Number s at w ≡ Refused noMeaning
 unfolding Permitted valueAt numberCell
 infinite-refused s at w p f = go (allZero s at w) refl
   where
@@ -92,7 +114,9 @@ infinite-refused s at w p f = go (allZero s at w) refl
     go false z = sym (cell-value Kin.Number s at w z) ∙ rw f
 
 -- a number that isn't finite is not written: 11, and the buffer as it was
-pub infinite-unwritten : (x : Float) (code w : ℕ) (buffer : List ℕ) → kindOf code w ≡ Kind Kin.Number → w ≤ length buffer → finite x ≡ false
+pub infinite-unwritten : (x : Float) (code w : ℕ) (buffer : List ℕ) → kindOf code w ≡ Kind Kin.Number
+    → w ≤ length buffer → finite x ≡ false
     → writeOf code w (number x) buffer ≡ (noMeaning, buffer)
 unfolding isBlob ofKind formOf numberForm putForm
-infinite-unwritten x code w buffer k room f = sym (write-form code w (number x) buffer Kin.Number k refl refl room) ∙ rw f
+infinite-unwritten x code w buffer k room f =
+    sym (write-form code w (number x) buffer Kin.Number k refl refl room) ∙ rw f

@@ -2,6 +2,7 @@ pub mod CopyLaws
 pub mod DoubleLaws
 pub mod Finite
 pub mod Inverse
+pub mod LocatingLaws
 pub mod PlaceLaws
 pub mod ReadingLaws
 pub mod RoundTrip

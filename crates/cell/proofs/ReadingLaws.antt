@@ -4,7 +4,7 @@ use mathlib.Core.Bool.{Bool, true, false, not, _&&_, true≢false}
 use mathlib.Core.List.{List}
 use Prim.Native.Nat.{ℕ, _+_, _-_, _^_, _≤_, _<_}
 use native.Mathlib.Omega.{arith}
-use borrow.Author.Tests.{le-leb, lt-leb, lt-ltb, le-ltb, eq-eqb, ne-eqb}
+use borrow.Author.Tests.{le-leb, lt-leb}
 use lib.IntN.{pos}
 use lib.Ieee.{binary64, ofBits}
 use Rattle.words.specs.Numbers.{Bytes, big}
@@ -12,22 +12,28 @@ use Rattle.words.specs.Signed.{half, complemented, signed}
 use Rattle.words.specs.Zeros.{allZero, beforeZero}
 use Rattle.words.proofs.NumberLaws.{big-lt}
 use Rattle.words.proofs.SignedLaws.{signed-complemented, less-below, less-from}
-use Rattle.header.specs.Refusals.{wrongCount, noMeaning, blobCell, badArgument}
+use Rattle.header.specs.Refusals.{noMeaning, blobCell, badArgument}
 use Rattle.header.specs.Kinds.{isBlob, Permitted}
+use Rattle.header.specs.Header.{headerRefusal}
+use Rattle.header.specs.Numbers.{numbersOf}
+use Rattle.header.specs.declared.Header.{Header}
 use Rattle.header.specs.declared.kind.FieldKind.{FieldKind}
 use Rattle.header.specs.declared.kind.FieldKind.the-variants as Kin
-use Rattle.cell.specs.Values.{answerOf}
-use Rattle.cell.specs.Reading.{leastDate, mostDate, dateCell, numberCell, logicalCell, textWith, valueAt, cellAt, placeCell, fieldCell, blockCell, cellOf, readOf}
-use Rattle.header.specs.Header.{headerOf, fieldOf}
-use Rattle.header.specs.declared.Header.{Header}
 use Rattle.header.specs.declared.field.Field.the-variants as Fie
-use Rattle.blocks.specs.Shape.{shapeOf, hasBlock, recordAt}
-use Rattle.blocks.specs.Counts.{countIn}
-use Rattle.blocks.specs.declared.count.Count.the-variants.{Records, Bad}
+use Rattle.header.specs.Answers.{headerFirst, headerAnswer}
+use Rattle.header.specs.declared.HeaderAnswer.{HeaderAnswer}
+use Rattle.header.proofs.VerdictLaws.{unless-kept}
+use Rattle.header.proofs.AcceptedLaws.{read-numbers, first-kept, first-refused}
+use Rattle.blocks.specs.Shape.{shapeOf}
+use Rattle.cell.specs.Values.{answerOf}
+use Rattle.cell.specs.Locating.{fieldAt, placeAt}
+use Rattle.cell.specs.Reading.{leastDate, mostDate, dateCell, numberCell, logicalCell, textWith, valueAt, cellAt}
+use Rattle.cell.specs.Reading.{placeCell, fieldCell, blockCell, cellOf, readOf}
 use Rattle.cell.specs.declared.value.Value.{Value}
 use Rattle.cell.specs.declared.value.Value.the-variants as Val
 use Rattle.cell.specs.declared.value.Cell.{Cell}
 use Rattle.cell.specs.declared.value.Cell.the-variants.{Is, Refused}
+use Rattle.cell.specs.declared.locate.Place.the-variants as Pla
 
 -- a refusal is not a value
 pub no-cell : {X : Type 0} {n : ℕ} {v : Value} → Refused n ≡ Is v → X
@@ -52,7 +58,8 @@ module _ (n : ℕ) where
     unfolding dateCell
     date-late l = rw (day, le-leb leastDate (n - half 4) (omega arith), lt-leb (n - half 4) mostDate l)
 
-    pub date-is : leastDate ≤ n - (half 4) → n - (half 4) ≤ mostDate → Is (Val.Date (n - half 4)) ≡ dateCell (signed (half 4) (complemented (half 4) n))
+    pub date-is : leastDate ≤ n - (half 4) → n - (half 4) ≤ mostDate
+        → Is (Val.Date (n - half 4)) ≡ dateCell (signed (half 4) (complemented (half 4) n))
     unfolding dateCell
     date-is l m = rw (day, le-leb leastDate (n - half 4) l, le-leb (n - half 4) mostDate m)
 
@@ -106,21 +113,37 @@ module _ (s : List ℕ) (at w : ℕ) (z : allZero s at w ≡ false) where
   unfolding valueAt
   cell-text = cell-value Kin.Text s at w z
 
-  pub cell-date : Permitted Kin.Date w → (n : ℕ) → n ≡ big s at w → dateCell (signed (half 4) (complemented (half 4) n)) ≡ cellAt Kin.Date s at w
+  pub cell-date : Permitted Kin.Date w → (n : ℕ) → n ≡ big s at w
+      → dateCell (signed (half 4) (complemented (half 4) n)) ≡ cellAt Kin.Date s at w
   unfolding Permitted valueAt
-  cell-date p n f = rw f (ap (λ (v : ℕ). dateCell (signed (half v) (complemented (half v) (big s at w)))) (sym p) ∙ cell-value Kin.Date s at w z)
+  cell-date p n f =
+      rw f
+      (ap (λ (v : ℕ). dateCell (signed (half v) (complemented (half v) (big s at w)))) (sym p)
+      ∙ cell-value Kin.Date s at w z)
 
-  pub cell-short : Permitted Kin.Short w → (n : ℕ) → n ≡ big s at w → Is (Val.Short (signed (half 2) (complemented (half 2) n))) ≡ cellAt Kin.Short s at w
+  pub cell-short : Permitted Kin.Short w → (n : ℕ) → n ≡ big s at w
+      → Is (Val.Short (signed (half 2) (complemented (half 2) n))) ≡ cellAt Kin.Short s at w
   unfolding Permitted valueAt
-  cell-short p n f = rw f (ap {B = Cell} (λ (v : ℕ). Is (Val.Short (signed (half v) (complemented (half v) (big s at w))))) (sym p) ∙ cell-value Kin.Short s at w z)
+  cell-short p n f =
+      rw f
+      (ap {B = Cell} (λ (v : ℕ). Is (Val.Short (signed (half v) (complemented (half v) (big s at w))))) (sym p)
+      ∙ cell-value Kin.Short s at w z)
 
-  pub cell-long : Permitted Kin.Long w → (n : ℕ) → n ≡ big s at w → Is (Val.Long (signed (half 4) (complemented (half 4) n))) ≡ cellAt Kin.Long s at w
+  pub cell-long : Permitted Kin.Long w → (n : ℕ) → n ≡ big s at w
+      → Is (Val.Long (signed (half 4) (complemented (half 4) n))) ≡ cellAt Kin.Long s at w
   unfolding Permitted valueAt
-  cell-long p n f = rw f (ap {B = Cell} (λ (v : ℕ). Is (Val.Long (signed (half v) (complemented (half v) (big s at w))))) (sym p) ∙ cell-value Kin.Long s at w z)
+  cell-long p n f =
+      rw f
+      (ap {B = Cell} (λ (v : ℕ). Is (Val.Long (signed (half v) (complemented (half v) (big s at w))))) (sym p)
+      ∙ cell-value Kin.Long s at w z)
 
-  pub cell-number : Permitted Kin.Number w → (n : ℕ) → n ≡ big s at w → numberCell (ofBits binary64 (complemented (half 8) n)) ≡ cellAt Kin.Number s at w
+  pub cell-number : Permitted Kin.Number w → (n : ℕ) → n ≡ big s at w
+      → numberCell (ofBits binary64 (complemented (half 8) n)) ≡ cellAt Kin.Number s at w
   unfolding Permitted valueAt
-  cell-number p n f = rw f (ap (λ (v : ℕ). numberCell (ofBits binary64 (complemented (half v) (big s at w)))) (sym p) ∙ cell-value Kin.Number s at w z)
+  cell-number p n f =
+      rw f
+      (ap (λ (v : ℕ). numberCell (ofBits binary64 (complemented (half v) (big s at w)))) (sym p)
+      ∙ cell-value Kin.Number s at w z)
 
   pub cell-logical : (n : ℕ) → n ≡ big s at w → logicalCell n ≡ cellAt Kin.Logical s at w
   unfolding valueAt
@@ -129,36 +152,36 @@ module _ (s : List ℕ) (at w : ℕ) (z : allZero s at w ≡ false) where
 -- ---- by block, place and field
 
 module _ (t : List ℕ) (h : Header) (b p f : ℕ) where
-  pub block-none : hasBlock (shapeOf h) b ≡ false → Refused badArgument ≡ blockCell t h b p f
-  unfolding blockCell
-  block-none e = rw e
+  pub block-missing : fieldAt t h b f ≡ Fie.Missing → Refused badArgument ≡ blockCell t h b p f
+  unfolding blockCell fieldCell
+  block-missing e = rw e
 
-  module _ (here : hasBlock (shapeOf h) b ≡ true) where
-    pub block-missing : fieldOf t h f ≡ Fie.Missing → Refused badArgument ≡ blockCell t h b p f
-    unfolding blockCell fieldCell
-    block-missing e = rw (here, e)
+  module _ (kind : FieldKind) (width offset : ℕ) (e : fieldAt t h b f ≡ Fie.Is kind width offset) where
+    pub block-refused : (n : ℕ) → placeAt t (shapeOf h) b p offset ≡ Pla.Refused n → Refused n ≡ blockCell t h b p f
+    unfolding blockCell fieldCell placeCell
+    block-refused n r = rw (e, r)
 
-    module _ (kind : FieldKind) (width offset : ℕ) (e : fieldOf t h f ≡ Fie.Is kind width offset) where
-      pub block-bad : countIn t (shapeOf h) b ≡ Bad → Refused wrongCount ≡ blockCell t h b p f
-      unfolding blockCell fieldCell placeCell
-      block-bad k = rw (here, e, k)
-
-      pub block-short : (n : ℕ) → countIn t (shapeOf h) b ≡ Records n → n ≤ p → Refused badArgument ≡ blockCell t h b p f
-      unfolding blockCell fieldCell placeCell
-      block-short n k l = rw (here, e, k, le-ltb p n l)
-
-      pub block-cell : (n : ℕ) → countIn t (shapeOf h) b ≡ Records n → p < n → cellAt kind t (recordAt (shapeOf h) b p + offset) width ≡ blockCell t h b p f
-      unfolding blockCell fieldCell placeCell
-      block-cell n k l = rw (here, e, k, lt-ltb p n l)
+    pub block-cell : (at : ℕ) → placeAt t (shapeOf h) b p offset ≡ Pla.At at
+        → cellAt kind t at width ≡ blockCell t h b p f
+    unfolding blockCell fieldCell placeCell
+    block-cell at r = rw (e, r)
 
 module _ (t : List ℕ) (b p f : ℕ) where
-  pub cell-refused : (headerOf t .refusal ≡ 0 → ⊥) → Refused (headerOf t .refusal) ≡ cellOf t b p f
-  unfolding cellOf
-  cell-refused e = rw (ne-eqb (headerOf t .refusal) 0 e)
+  pub cell-accepted : headerRefusal t ≡ 0 → blockCell t (numbersOf t) b p f ≡ cellOf t b p f
+  unfolding cellOf headerFirst
+  cell-accepted e = sym (unless-kept (headerRefusal t) Refused (blockCell t (numbersOf t) b p f) e)
 
-  pub cell-accepted : headerOf t .refusal ≡ 0 → blockCell t (headerOf t) b p f ≡ cellOf t b p f
-  unfolding cellOf
-  cell-accepted e = rw (eq-eqb (headerOf t .refusal) 0 e)
+  -- of a header that was read as r
+  module _ (r : HeaderAnswer) (read : r ≡ headerAnswer t) where
+    pub cell-refused : (r .refusal ≡ 0 → ⊥) → Refused (r .refusal) ≡ cellOf t b p f
+    unfolding cellOf
+    cell-refused e = sym (first-refused t r read (λ (n : ℕ). Refused n) (blockCell t (numbersOf t) b p f) e)
+
+    pub cell-read : r .refusal ≡ 0 → blockCell t (r .header) b p f ≡ cellOf t b p f
+    unfolding cellOf
+    cell-read z =
+        ap (λ (h : Header). blockCell t h b p f) (read-numbers t r read z)
+        ∙ sym (first-kept t r read (λ (n : ℕ). Refused n) (blockCell t (numbersOf t) b p f) z)
 
   -- the cell is the definition's, and so are its number and value
   pub answers : (c : Cell) → c ≡ cellOf t b p f → (c ≡ cellOf t b p f) × (answerOf t c ≡ readOf t b p f)

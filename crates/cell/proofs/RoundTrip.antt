@@ -1,5 +1,5 @@
--- A value that is written reads as itself, and a cell that is read is written as the same bytes: a value has one form, the form reads as
--- the value, and the bytes that a value is read from are its form. Assumes nothing.
+-- A value that is written reads as itself, and a cell that is read is written as the same bytes: a value has one form,
+-- the form reads as the value, and the bytes that a value is read from are its form. Assumes nothing.
 use mathlib.Core.Path.{_≡_, refl, sym, ap, _∙_, subst}
 use mathlib.Core.Bool.{Bool, true, false, cond, not, _&&_, true≢false}
 use mathlib.Core.List.{List, [], _++_}
@@ -28,16 +28,20 @@ use Rattle.header.specs.declared.kind.FieldKind.the-variants as Kin
 use Rattle.header.specs.declared.kind.StoredKind.{StoredKind}
 use Rattle.header.specs.declared.kind.StoredKind.the-variants.{Kind, Unknown}
 use Rattle.header.proofs.KindLaws.{kind-width}
-use Rattle.cell.specs.Values.{Held, Content, nothing, blank, short, long, date, number, logical, text, contentOf, answerOf}
+use Rattle.cell.specs.Values.{Held, Content, nothing, blank, short, long, date, number, logical, text, contentOf}
+use Rattle.cell.specs.Values.{answerOf}
 use Rattle.cell.specs.Reading.{falseByte, trueByte, isDate, signedAt, doubleAt, valueAt, cellAt}
-use Rattle.cell.specs.Writing.{Form, none, bytes, minusZero, signedForm, dateForm, numberForm, formOf, ofKind, putForm, putValue, writeKind, writeStored, writeOf}
+use Rattle.cell.specs.Writing.{Form, none, bytes, minusZero, signedForm, dateForm, numberForm, formOf, ofKind}
+use Rattle.cell.specs.Writing.{putForm, putValue, writeKind, writeStored, writeOf}
 use Rattle.cell.specs.declared.value.Value.{Value}
 use Rattle.cell.specs.declared.value.Value.the-variants as Val
 use Rattle.cell.specs.declared.value.Cell.the-variants.{Is}
 use Rattle.cell.proofs.ReadingLaws.{no-cell}
 use Rattle.cell.proofs.ValueKinds.{same-kind}
 use Rattle.cell.proofs.WritingLaws.{write-form}
-use Rattle.cell.proofs.Inverse.{no-form, Numbered, signed-form, signed-means, read-date, date-means, read-number, number-form, number-means, read-logical, logical-means, text-means, text-not-blank, text-reads, read-text, text-part, text-form}
+use Rattle.cell.proofs.Inverse.{no-form, Numbered, signed-form, signed-means, read-date, date-means, read-number}
+use Rattle.cell.proofs.Inverse.{number-form, number-means, read-logical, logical-means, text-means}
+use Rattle.cell.proofs.Inverse.{text-not-blank, text-reads, read-text, text-part, text-form}
 
 -- ---- how long a form is
 
@@ -58,7 +62,8 @@ form-length w blank s h = let e : s ≡ replicate w 0 = cc in ap length e ∙ le
 form-length w (short z) s h = signed-length w z s h
 form-length w (long z) s h = signed-length w z s h
 form-length w (date d) s h = digits-form w (d + half w) (isDate d) s h
-form-length w (number x) s h = digits-form w (complemented (half w) (toBits binary64 x)) (finite x && not (minusZero x)) s h
+form-length w (number x) s h =
+    digits-form w (complemented (half w) (toBits binary64 x)) (finite x && not (minusZero x)) s h
 form-length w (logical b) s h = digits-form w (cond b trueByte falseByte) true s h
 form-length w (text t) s h =
     let q = text-means w t s h in
@@ -67,15 +72,18 @@ form-length w (text t) s h =
 -- ---- a form reads as its value
 
 -- where the kind's meaning is by the number of the bytes
-stored-reads : {means : ℕ → Type 0} (kind : FieldKind) (w : ℕ) (s : List ℕ) (c : Content) (rest : List ℕ) → isBlob kind ≡ false → Numbered w s means
-    → ((t : List ℕ) → means (big t 0 w) → answerOf t (valueAt kind t 0 w) ≡ (0, c)) → answerOf (s ++ rest) (cellAt kind (s ++ rest) 0 w) ≡ (0, c)
+stored-reads : {means : ℕ → Type 0} (kind : FieldKind) (w : ℕ) (s : List ℕ) (c : Content) (rest : List ℕ)
+    → isBlob kind ≡ false → Numbered w s means
+    → ((t : List ℕ) → means (big t 0 w) → answerOf t (valueAt kind t 0 w) ≡ (0, c))
+    → answerOf (s ++ rest) (cellAt kind (s ++ rest) 0 w) ≡ (0, c)
 unfolding cellAt
 stored-reads kind w s c rest b (n, p, l, e, m) h =
     let q : big (s ++ rest) 0 w ≡ n = ap (λ (d : List ℕ). big (d ++ rest) 0 w) (sym e) ∙ big-digits w n rest l in
     rw (b, zero-number (s ++ rest) 0 w, ne-eqb (big (s ++ rest) 0 w) 0 (omega arith)) (h (s ++ rest) (rw q m))
 
 -- the form of a value of the cell's kind reads as the value, whatever stands behind it
-pub form-reads : (kind : FieldKind) (w : ℕ) (c : Content) (s rest : List ℕ) → Permitted kind w → isBlob kind ≡ false → Held c → ofKind c kind ≡ true → formOf w c ≡ bytes s
+pub form-reads : (kind : FieldKind) (w : ℕ) (c : Content) (s rest : List ℕ) → Permitted kind w → isBlob kind ≡ false
+    → Held c → ofKind c kind ≡ true → formOf w c ≡ bytes s
     → answerOf (s ++ rest) (cellAt kind (s ++ rest) 0 w) ≡ (0, c)
 unfolding Held formOf ofKind Permitted isBlob valueAt cellAt answerOf contentOf
 form-reads kind w nothing s rest p b h u f = no-form f
@@ -84,11 +92,15 @@ form-reads kind w blank s rest p b h u f =
 form-reads kind w (short z) s rest p b h u f =
     let k = same-kind kind Kin.Short u in
     let l : w ≡ 2 = rw k at p in
-    rw k (stored-reads Kin.Short w s (short z) rest refl (signed-means w (omega arith) z s f) (λ t m. ap {B = ℕ × Content} (λ (x : ℤ). (0, short x)) m))
+    rw k
+    (stored-reads Kin.Short w s (short z) rest refl (signed-means w (omega arith) z s f)
+    (λ t m. ap {B = ℕ × Content} (λ (x : ℤ). (0, short x)) m))
 form-reads kind w (long z) s rest p b h u f =
     let k = same-kind kind Kin.Long u in
     let l : w ≡ 4 = rw k at p in
-    rw k (stored-reads Kin.Long w s (long z) rest refl (signed-means w (omega arith) z s f) (λ t m. ap {B = ℕ × Content} (λ (x : ℤ). (0, long x)) m))
+    rw k
+    (stored-reads Kin.Long w s (long z) rest refl (signed-means w (omega arith) z s f)
+    (λ t m. ap {B = ℕ × Content} (λ (x : ℤ). (0, long x)) m))
 form-reads kind w (date d) s rest p b h u f =
     let k = same-kind kind Kin.Date u in
     let l : w ≡ 4 = rw k at p in
@@ -96,12 +108,15 @@ form-reads kind w (date d) s rest p b h u f =
 form-reads kind w (number x) s rest p b h u f =
     let k = same-kind kind Kin.Number u in
     let l : w ≡ 8 = rw k at p in
-    rw (k, l) (stored-reads Kin.Number 8 s (number x) rest refl (number-means x s h (rw l at f)) (λ t m. ap (answerOf t) m))
+    rw (k, l)
+    (stored-reads Kin.Number 8 s (number x) rest refl (number-means x s h (rw l at f)) (λ t m. ap (answerOf t) m))
 form-reads kind w (logical x) s rest p b h u f =
     let k = same-kind kind Kin.Logical u in
     let l : w ≡ 1 = rw k at p in
     let e : s ≡ digits 1 (cond x trueByte falseByte) = let g = rw l at f in cc in
-    rw (k, l, e) (stored-reads Kin.Logical 1 (digits 1 (cond x trueByte falseByte)) (logical x) rest refl (logical-means x) (λ t m. ap (answerOf t) m))
+    rw (k, l, e)
+    (stored-reads Kin.Logical 1 (digits 1 (cond x trueByte falseByte)) (logical x) rest refl (logical-means x)
+    (λ t m. ap (answerOf t) m))
 form-reads kind w (text t) s rest p b h u f =
     let k = same-kind kind Kin.Text u in
     let q = text-means w t s f in
@@ -116,22 +131,27 @@ Refusal buffer answer = (n : ℕ) × (answer ≡ (n, buffer)) × (n ≡ 0 → �
 -- 0, and a form in front of the rest of the buffer
 abbrev pub Written : ℕ → ℕ → Content → List ℕ → ℕ × List ℕ → Type 0
 Written code w c buffer answer =
-    (kind : FieldKind) × (s : List ℕ) × (kindOf code w ≡ Kind kind) × (isBlob kind ≡ false) × (ofKind c kind ≡ true) × (w ≤ length buffer) × (formOf w c ≡ bytes s)
-    × (answer ≡ (0, s ++ drop w buffer))
+    (kind : FieldKind) × (s : List ℕ) × (kindOf code w ≡ Kind kind) × (isBlob kind ≡ false) × (ofKind c kind ≡ true)
+    × (w ≤ length buffer) × (formOf w c ≡ bytes s) × (answer ≡ (0, s ++ drop w buffer))
 
-outcome : (code w : ℕ) (c : Content) (buffer : List ℕ) → Refusal buffer (writeOf code w c buffer) ⊎ Written code w c buffer (writeOf code w c buffer)
+outcome : (code w : ℕ) (c : Content) (buffer : List ℕ)
+    → Refusal buffer (writeOf code w c buffer) ⊎ Written code w c buffer (writeOf code w c buffer)
 unfolding writeOf writeStored writeKind putValue putForm
 outcome code w c buffer = by (kindOf code w) refl
   where
-    go : (kind : FieldKind) → kindOf code w ≡ Kind kind → (b u l : Bool) (f : Form) → isBlob kind ≡ b → ofKind c kind ≡ u → leb w (length buffer) ≡ l → formOf w c ≡ f
-        → (let answer : ℕ × List ℕ = cond b (blobCell, buffer) (cond u (cond l (putForm w f buffer) (shortBuffer, buffer)) (badArgument, buffer)) in Refusal buffer answer ⊎ Written code w c buffer answer)
+    go : (kind : FieldKind) → kindOf code w ≡ Kind kind → (b u l : Bool) (f : Form) → isBlob kind ≡ b
+        → ofKind c kind ≡ u → leb w (length buffer) ≡ l → formOf w c ≡ f
+        → (let put : ℕ × List ℕ = cond l (putForm w f buffer) (shortBuffer, buffer) in
+        let answer : ℕ × List ℕ = cond b (blobCell, buffer) (cond u put (badArgument, buffer)) in
+        Refusal buffer answer ⊎ Written code w c buffer answer)
     go kind k true u l f p q r e = inl (blobCell, refl, omega arith)
     go kind k false false l f p q r e = inl (badArgument, refl, omega arith)
     go kind k false true false f p q r e = inl (shortBuffer, refl, omega arith)
     go kind k false true true none p q r e = inl (noMeaning, refl, omega arith)
     go kind k false true true (bytes s) p q r e = inr (kind, s, k, p, q, leb-true w (length buffer) r, e, refl)
 
-    by : (stored : StoredKind) → kindOf code w ≡ stored → Refusal buffer (writeStored stored w c buffer) ⊎ Written code w c buffer (writeStored stored w c buffer)
+    by : (stored : StoredKind) → kindOf code w ≡ stored
+        → Refusal buffer (writeStored stored w c buffer) ⊎ Written code w c buffer (writeStored stored w c buffer)
     by Unknown k = inl (badArgument, refl, omega arith)
     by (Kind kind) k = go kind k (isBlob kind) (ofKind c kind) (leb w (length buffer)) (formOf w c) refl refl refl refl
 
@@ -143,15 +163,18 @@ unfolding putForm
 write-is code kind w c s buffer k b u room f = sym (write-form code w c buffer kind k b u room) ∙ rw f
 
 -- writing that is refused leaves the buffer as it was
-pub refused-unchanged : (code w : ℕ) (c : Content) (buffer : List ℕ) (n : ℕ) (out : List ℕ) → writeOf code w c buffer ≡ (n, out) → (n ≡ 0 → ⊥) → out ≡ buffer
+pub refused-unchanged : (code w : ℕ) (c : Content) (buffer : List ℕ) (n : ℕ) (out : List ℕ)
+    → writeOf code w c buffer ≡ (n, out) → (n ≡ 0 → ⊥) → out ≡ buffer
 refused-unchanged code w c buffer n out h e =
     ⊎-elim
     (λ (r : Refusal buffer (writeOf code w c buffer)). ap (λ (a : ℕ × List ℕ). a .1) (sym h ∙ r .1))
-    (λ (r : Written code w c buffer (writeOf code w c buffer)). absurd (e (ap (λ (a : ℕ × List ℕ). a .0) (sym h ∙ r .7))))
+    (λ (r : Written code w c buffer (writeOf code w c buffer)).
+    absurd (e (ap (λ (a : ℕ × List ℕ). a .0) (sym h ∙ r .7))))
     (outcome code w c buffer)
 
 -- what an answer of 0 tells
-pub wrote : (code w : ℕ) (c : Content) (buffer out : List ℕ) → writeOf code w c buffer ≡ (0, out) → Written code w c buffer (0, out)
+pub wrote : (code w : ℕ) (c : Content) (buffer out : List ℕ) → writeOf code w c buffer ≡ (0, out)
+    → Written code w c buffer (0, out)
 wrote code w c buffer out h =
     ⊎-elim
     (λ (r : Refusal buffer (writeOf code w c buffer)). absurd (r .2 (ap (λ (a : ℕ × List ℕ). a .0) (sym (r .1) ∙ h))))
@@ -159,15 +182,20 @@ wrote code w c buffer out h =
     (outcome code w c buffer)
 
 -- whatever the answer, what stands behind the width is as it was, and the buffer keeps its length
-pub write-rest : (code w : ℕ) (c : Content) (buffer : List ℕ) (n : ℕ) (out : List ℕ) → writeOf code w c buffer ≡ (n, out) → (drop w out ≡ drop w buffer) × (length out ≡ length buffer)
+pub write-rest : (code w : ℕ) (c : Content) (buffer : List ℕ) (n : ℕ) (out : List ℕ)
+    → writeOf code w c buffer ≡ (n, out) → (drop w out ≡ drop w buffer) × (length out ≡ length buffer)
 write-rest code w c buffer n out h =
     ⊎-elim
-    (λ (r : Refusal buffer (writeOf code w c buffer)). let e : out ≡ buffer = ap (λ (a : ℕ × List ℕ). a .1) (sym h ∙ r .1) in rw e (refl, refl))
+    (λ (r : Refusal buffer (writeOf code w c buffer)).
+    let e : out ≡ buffer = ap (λ (a : ℕ × List ℕ). a .1) (sym h ∙ r .1) in
+    rw e (refl, refl))
     (λ (r : Written code w c buffer (writeOf code w c buffer)).
     let s = r .1 in
     let l = form-length w c s (r .6) in
-    let e : out ≡ s ++ drop w buffer = ap (λ (a : ℕ × List ℕ). a .1) (sym h ∙ r .7) in
-    (ap (drop w) e ∙ drop-at s (drop w buffer) w l, ap length e ∙ length-front buffer s w (l ∙ sym (length-take-le w buffer (r .5)))))
+    let e : out ≡ s ++ drop w buffer = ap (λ (a : ℕ × List ℕ). a .1) (sym h ∙ r .7) in (
+      ap (drop w) e ∙ drop-at s (drop w buffer) w l,
+      ap length e ∙ length-front buffer s w (l ∙ sym (length-take-le w buffer (r .5))),
+    ))
     (outcome code w c buffer)
 
 -- a value that is written reads as itself
@@ -201,12 +229,15 @@ not-blob Kin.Blob s at w v h = no-cell h
 
 -- a cell that is read is of no blob, and is blank or has the value of its kind
 pub read-as : (kind : FieldKind) (s : List ℕ) (at w : ℕ) (v : Value) → cellAt kind s at w ≡ Is v
-    → (isBlob kind ≡ false) × (((allZero s at w ≡ true) × (v ≡ Val.Blank)) ⊎ ((allZero s at w ≡ false) × (valueAt kind s at w ≡ Is v)))
+    → (isBlob kind ≡ false)
+    × (((allZero s at w ≡ true) × (v ≡ Val.Blank)) ⊎ ((allZero s at w ≡ false) × (valueAt kind s at w ≡ Is v)))
 unfolding cellAt
 read-as kind s at w v h = go (isBlob kind) (allZero s at w) refl refl h
   where
-    go : (b z : Bool) → isBlob kind ≡ b → allZero s at w ≡ z → cond (not b && z) (Is Val.Blank) (valueAt kind s at w) ≡ Is v
-        → (isBlob kind ≡ false) × (((allZero s at w ≡ true) × (v ≡ Val.Blank)) ⊎ ((allZero s at w ≡ false) × (valueAt kind s at w ≡ Is v)))
+    go : (b z : Bool) → isBlob kind ≡ b → allZero s at w ≡ z
+        → cond (not b && z) (Is Val.Blank) (valueAt kind s at w) ≡ Is v
+        → (isBlob kind ≡ false)
+        × (((allZero s at w ≡ true) × (v ≡ Val.Blank)) ⊎ ((allZero s at w ≡ false) × (valueAt kind s at w ≡ Is v)))
     go true z e f k = absurd (true≢false (sym e ∙ not-blob kind s at w v k))
     go false true e f k = (e, inl (f, cc))
     go false false e f k = (e, inr (f, k))
@@ -216,7 +247,9 @@ number-wide : (w n : ℕ) → w ≡ 8 → 0 < n → n < 256 ^ w → finite (ofBi
     → numberForm w (ofBits binary64 (complemented (half w) n)) ≡ bytes (digits w n)
 number-wide w n e =
     subst
-    (λ (k : ℕ). 0 < n → n < 256 ^ k → finite (ofBits binary64 (complemented (half k) n)) ≡ true → numberForm k (ofBits binary64 (complemented (half k) n)) ≡ bytes (digits k n))
+    (λ (k : ℕ).
+    0 < n → n < 256 ^ k → finite (ofBits binary64 (complemented (half k) n)) ≡ true
+    → numberForm k (ofBits binary64 (complemented (half k) n)) ≡ bytes (digits k n))
     (sym e)
     (number-form n)
 
@@ -262,7 +295,9 @@ read-then-write code kind w s at v buffer k b room h fit =
     let r = read-as kind s at w v h in
     ⊎-elim
     (λ (c : (allZero s at w ≡ true) × (v ≡ Val.Blank)).
-    rw (c .1) (write-is code kind w blank (range s at w) buffer k (r .0) refl fit (ap bytes (sym (zero-range s at w room (c .0))))))
+    rw (c .1)
+    (write-is code kind w blank (range s at w) buffer k (r .0) refl fit
+    (ap bytes (sym (zero-range s at w room (c .0))))))
     (λ (c : (allZero s at w ≡ false) × (valueAt kind s at w ≡ Is v)).
     let f = value-forms s at w b room kind v (kind-width code w kind k) (c .0) (c .1) in
     write-is code kind w (contentOf s v) (range s at w) buffer k (r .0) (f .0) fit (f .1))
@@ -270,7 +305,8 @@ read-then-write code kind w s at v buffer k b room h fit =
 
 value-held : (kind : FieldKind) (s : List ℕ) (at w : ℕ) (v : Value) → valueAt kind s at w ≡ Is v → Held (contentOf s v)
 unfolding Held valueAt contentOf
-value-held Kin.Text s at w v h = rw (read-text s at w (beforeZero s at w) v h .0) (go (leb (at + beforeZero s at w) (length s)))
+value-held Kin.Text s at w v h =
+    rw (read-text s at w (beforeZero s at w) v h .0) (go (leb (at + beforeZero s at w) (length s)))
   where
     go : (t : Bool) → Held (cond t (text (range s at (beforeZero s at w))) nothing)
     go true = tt
@@ -279,12 +315,14 @@ value-held Kin.Date s at w v h = rw (read-date (signedAt s at w) v h .1) tt
 value-held Kin.Short s at w v h = let e : v ≡ Val.Short (signedAt s at w) = cc in rw e tt
 value-held Kin.Long s at w v h = let e : v ≡ Val.Long (signedAt s at w) = cc in rw e tt
 value-held Kin.Number s at w v h =
-    rw (read-number (doubleAt s at w) v h .0) (is-true (fits binary64 (doubleAt s at w)) (ofBits-fits binary64 (complemented (half w) (big s at w))))
+    rw (read-number (doubleAt s at w) v h .0)
+    (is-true (fits binary64 (doubleAt s at w)) (ofBits-fits binary64 (complemented (half w) (big s at w))))
 value-held Kin.Logical s at w v h = rw (read-logical (big s at w) v h .1) tt
 value-held Kin.Blob s at w v h = no-cell h
 
 -- a value that is read is one that a program's value can be
-pub read-held : (kind : FieldKind) (s : List ℕ) (at w : ℕ) (v : Value) → cellAt kind s at w ≡ Is v → Held (contentOf s v)
+pub read-held : (kind : FieldKind) (s : List ℕ) (at w : ℕ) (v : Value) → cellAt kind s at w ≡ Is v
+    → Held (contentOf s v)
 unfolding Held contentOf
 read-held kind s at w v h =
     ⊎-elim

@@ -1,5 +1,5 @@
--- A number less its top bit at 64 bits and then at a narrower width, and back: what the casts ask and give, once over the width.
--- Assumes nothing.
+-- A number less its top bit at 64 bits and then at a narrower width, and back: what the casts ask and give, once over
+-- the width. Assumes nothing.
 use mathlib.Core.Path.{_≡_, refl, sym}
 use mathlib.Core.Logic.{⊎-elim}
 use Prim.Native.Nat.{ℕ, suc, _+_, _-_, _^_, _≤_, _<_}
@@ -19,7 +19,8 @@ use Rattle.cell.specs.Writing.{signedForm, none, bytes}
 
 -- ---- reading: the machine's own signed number of a width is the definition's
 
-pub machine-signed : (w : Width) (top n : ℕ) → 2 ^ hbits w ≡ top → 2 ^ bits w ≡ top + top → n < top + top → toZ w n ≡ signed top n
+pub machine-signed : (w : Width) (top n : ℕ) → 2 ^ hbits w ≡ top → 2 ^ bits w ≡ top + top → n < top + top
+    → toZ w n ≡ signed top n
 machine-signed w top n h k l =
     ⊎-elim
     (λ (b : n < top). rw (h, lt-ltb n top b, signed-below top n b))
@@ -52,7 +53,9 @@ module _ (w : Width) (n top : ℕ) (small : n < top + top) (half : 2 ^ hbits w �
   cast-fits = rw (plain, toZ-ofZ w64 (pos n -ℤ pos top) wide) fits
 
   pub cast-is : toZ w (ofZ w (toZ w64 (ofZ w64 (toZ w64 n -ℤ pos top)))) ≡ signed top (complemented top n)
-  cast-is = rw (plain, toZ-ofZ w64 (pos n -ℤ pos top) wide, toZ-ofZ w (pos n -ℤ pos top) fits) (sym (signed-complemented top n small))
+  cast-is =
+      rw (plain, toZ-ofZ w64 (pos n -ℤ pos top) wide, toZ-ofZ w (pos n -ℤ pos top) fits)
+      (sym (signed-complemented top n small))
 
 -- ---- writing: z and the top bit added
 
@@ -96,13 +99,16 @@ module _ (w : Width) (z : ℤ) (top : ℕ) (fits : SFits w z) (half : 2 ^ hbits 
   total-fits = record { fits = omega (arith, shift-lt z top (omega (arith, fits .sfits))) }
 
 -- the stored form in v bytes, by the bits of z: minus the top bit has none
-pub form-none : (w : Width) (v : ℕ) (z : ℤ) (top : ℕ) → SFits w z → 2 ^ hbits w ≡ top → 2 ^ bits w ≡ top + top → half v ≡ top → ofZ w z ≡ top → none ≡ signedForm v z
+pub form-none : (w : Width) (v : ℕ) (z : ℤ) (top : ℕ) → SFits w z → 2 ^ hbits w ≡ top → 2 ^ bits w ≡ top + top
+    → half v ≡ top → ofZ w z ≡ top → none ≡ signedForm v z
 unfolding signedForm
 form-none w v (pos m) top s h k same e = absurd (omega (arith, s .sfits))
 form-none w v (negsuc m) top s h k same e = rw (same, le-ltb (suc m) top (omega (arith, s .sfits)))
 
-pub form-is : (w : Width) (v : ℕ) (z : ℤ) (top : ℕ) → SFits w z → 2 ^ hbits w ≡ top → 2 ^ bits w ≡ top + top → half v ≡ top → (ofZ w z ≡ top → ⊥)
+pub form-is : (w : Width) (v : ℕ) (z : ℤ) (top : ℕ) → SFits w z → 2 ^ hbits w ≡ top → 2 ^ bits w ≡ top + top
+    → half v ≡ top → (ofZ w z ≡ top → ⊥)
     → bytes (digits v (shift top z)) ≡ signedForm v z
 unfolding signedForm
 form-is w v (pos m) top s h k same e = rw (same, lt-ltb m top (omega (arith, s .sfits)))
-form-is w v (negsuc m) top s h k same e = rw (same, lt-ltb (suc m) top (lt-of-le-ne (omega (arith, s .sfits)) (λ q. e (omega arith))))
+form-is w v (negsuc m) top s h k same e =
+    rw (same, lt-ltb (suc m) top (lt-of-le-ne (omega (arith, s .sfits)) (λ q. e (omega arith))))

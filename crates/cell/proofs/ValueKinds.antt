@@ -19,11 +19,14 @@ use Rattle.cell.specs.declared.value.Value.{Value}
 use Rattle.cell.specs.declared.value.Value.the-variants as Val
 
 -- a text is of the text kind, where it is a part of the lent bytes
-pub of-kind-text : (s : List ℕ) (start len : ℕ) (kind : FieldKind) → (leb (start + len) (length s) && eqb (codeOf kind) (codeOf Kin.Text)) ≡ ofKind (contentOf s (Val.Text start len)) kind
+pub of-kind-text : (s : List ℕ) (start len : ℕ) (kind : FieldKind)
+    → (leb (start + len) (length s) && eqb (codeOf kind) (codeOf Kin.Text))
+    ≡ ofKind (contentOf s (Val.Text start len)) kind
 unfolding contentOf ofKind
 of-kind-text s start len kind = go (leb (start + len) (length s))
   where
-    go : (b : Bool) → (b && eqb (codeOf kind) (codeOf Kin.Text)) ≡ ofKind (cond b (text (range s start len)) nothing) kind
+    go : (b : Bool)
+        → (b && eqb (codeOf kind) (codeOf Kin.Text)) ≡ ofKind (cond b (text (range s start len)) nothing) kind
     go true = refl
     go false = refl
 
@@ -52,7 +55,8 @@ pub same-kind : (kind other : FieldKind) → eqb (codeOf kind) (codeOf other) �
 same-kind kind other e = sym (kind-with kind) ∙ ap kindWith (eqb-true (codeOf kind) (codeOf other) e) ∙ kind-with other
 
 -- the width that such a kind permits
-pub same-width : (kind other : FieldKind) (w : ℕ) → eqb (codeOf kind) (codeOf other) ≡ true → Permitted kind w → Permitted other w
+pub same-width : (kind other : FieldKind) (w : ℕ) → eqb (codeOf kind) (codeOf other) ≡ true → Permitted kind w
+    → Permitted other w
 same-width kind other w e p = subst (λ (k : FieldKind). Permitted k w) (same-kind kind other e) p
 
 -- a value of a kind has its text inside the lent bytes
@@ -65,4 +69,6 @@ of-kind-inside s (Val.Date d) kind e = omega arith
 of-kind-inside s (Val.Number x) kind e = omega arith
 of-kind-inside s (Val.Logical b) kind e = omega arith
 of-kind-inside s (Val.Text start len) kind e =
-    leb-true (start + len) (length s) (both {a = leb (start + len) (length s)} {b = eqb (codeOf kind) (codeOf Kin.Text)} (of-kind-text s start len kind ∙ e) .0)
+    leb-true (start + len) (length s)
+    (both {a = leb (start + len) (length s)} {b = eqb (codeOf kind) (codeOf Kin.Text)}
+    (of-kind-text s start len kind ∙ e) .0)

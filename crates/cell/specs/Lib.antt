@@ -1,4 +1,5 @@
 pub mod Values
+pub mod Locating
 pub mod Reading
 pub mod Writing
 pub mod Steps

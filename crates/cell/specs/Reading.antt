@@ -1,36 +1,34 @@
 -- What a cell means: by its bytes, and by block, place and field of a table. Definitions only.
-use Prim.Native.Nat.{ℕ, _+_, _-_, _*_, _≤_}
+use Prim.Native.Nat.{ℕ, _+_, _-_}
 use mathlib.Core.Path.{_≡_}
 use mathlib.Core.Bool.{Bool, true, false, cond, not, _&&_}
 use mathlib.Core.List.{List}
-use lib.Dec.{eqb, leb, ltb}
+use lib.Dec.{eqb, leb}
 use lib.IntN.{ℤ, pos, negsuc}
 use lib.Ieee.{Float, binary64, ofBits}
 use lib.Ieee.Scale.{finite}
-use lib.ListN.{length}
-use Rattle.words.specs.Numbers.{byte, big}
+use Rattle.words.specs.Numbers.{big}
 use Rattle.words.specs.Signed.{half, complemented, signed}
 use Rattle.words.specs.Zeros.{allZero, beforeZero}
-use Rattle.header.specs.Refusals.{wrongCount, noMeaning, blobCell, badArgument}
-use Rattle.header.specs.Kinds.{kindOf, isBlob, Permitted}
-use Rattle.header.specs.Fields.{widthAt, widthSum}
-use Rattle.header.specs.Header.{headerOf, fieldOf}
+use Rattle.header.specs.Refusals.{noMeaning, blobCell, badArgument}
+use Rattle.header.specs.Kinds.{isBlob}
+use Rattle.header.specs.Numbers.{numbersOf}
+use Rattle.header.specs.Answers.{headerFirst}
 use Rattle.header.specs.declared.Header.{Header}
 use Rattle.header.specs.declared.kind.FieldKind.{FieldKind}
 use Rattle.header.specs.declared.kind.FieldKind.the-variants as Kin
-use Rattle.header.specs.declared.kind.StoredKind.the-variants.{Kind}
 use Rattle.header.specs.declared.field.Field.{Field}
 use Rattle.header.specs.declared.field.Field.the-variants as Fie
-use Rattle.blocks.specs.Shape.{shapeOf, hasBlock, recordAt}
-use Rattle.blocks.specs.Counts.{countIn}
+use Rattle.blocks.specs.Shape.{shapeOf}
 use Rattle.blocks.specs.declared.Shape.{Shape}
-use Rattle.blocks.specs.declared.count.Count.{Count}
-use Rattle.blocks.specs.declared.count.Count.the-variants.{Records, Bad}
-use Rattle.cell.specs.Values.{Content, answerOf}
+use Rattle.cell.specs.Values.{Content, answerOf, partOf}
+use Rattle.cell.specs.Locating.{fieldAt, placeAt, Located}
 use Rattle.cell.specs.declared.value.Value.{Value}
 use Rattle.cell.specs.declared.value.Value.the-variants as Val
 use Rattle.cell.specs.declared.value.Cell.{Cell}
 use Rattle.cell.specs.declared.value.Cell.the-variants.{Is, Refused}
+use Rattle.cell.specs.declared.locate.Place.{Place}
+use Rattle.cell.specs.declared.locate.Place.the-variants as Pla
 
 -- ---- each kind, of the w bytes at an offset that are not all zero
 
@@ -71,7 +69,9 @@ trueByte = 0x81
 
 -- logical: no other byte has a meaning (11)
 unfoldable pub logicalCell : ℕ → Cell
-logicalCell n = cond (eqb n falseByte) (Is (Val.Logical false)) (cond (eqb n trueByte) (Is (Val.Logical true)) (Refused noMeaning))
+logicalCell n =
+    cond (eqb n falseByte) (Is (Val.Logical false))
+    (cond (eqb n trueByte) (Is (Val.Logical true)) (Refused noMeaning))
 
 -- text of which l bytes stand before the first zero: that part; a nonzero byte after the zero is refused (11)
 unfoldable pub textWith : List ℕ → ℕ → ℕ → ℕ → Cell
@@ -91,41 +91,38 @@ valueAt Kin.Blob s at w = Refused blobCell
 unfoldable pub cellAt : FieldKind → List ℕ → ℕ → ℕ → Cell
 cellAt kind s at w = cond (not (isBlob kind) && allZero s at w) (Is Val.Blank) (valueAt kind s at w)
 
--- ---- by block, place (from 0) and field (from 1): 1 to 7, 13, 9, 13, 12, 11
+-- ---- by block, place (from 0) and field (from 1): 1 to 7, then 13, 9, 13 of locating, then 12, 11 of the bytes
 
--- 9 for a bad count, 13 for no such place
-unfoldable pub placeCell : List ℕ → Shape → ℕ → ℕ → FieldKind → ℕ → ℕ → Count → Cell
-placeCell t g b p kind width offset (Records n) = cond (ltb p n) (cellAt kind t (recordAt g b p + offset) width) (Refused badArgument)
-placeCell t g b p kind width offset Bad = Refused wrongCount
+-- a cell that is located has the meaning of its bytes; what locating refuses, reading refuses
+unfoldable pub placeCell : List ℕ → FieldKind → ℕ → Place → Cell
+placeCell t kind width (Pla.At at) = cellAt kind t at width
+placeCell t kind width (Pla.Refused n) = Refused n
 
--- 13 for no such field
+-- 13 where step 1 finds no field; else by step 2
 unfoldable pub fieldCell : List ℕ → Shape → ℕ → ℕ → Field → Cell
-fieldCell t g b p (Fie.Is kind width offset) = placeCell t g b p kind width offset (countIn t g b)
+fieldCell t g b p (Fie.Is kind width offset) = placeCell t kind width (placeAt t g b p offset)
 fieldCell t g b p Fie.Missing = Refused badArgument
 
--- 13 for no such block
+-- step 1, step 2, then the bytes
 unfoldable pub blockCell : List ℕ → Header → ℕ → ℕ → ℕ → Cell
-blockCell t h b p f = cond (hasBlock (shapeOf h) b) (fieldCell t (shapeOf h) b p (fieldOf t h f)) (Refused badArgument)
+blockCell t h b p f = fieldCell t (shapeOf h) b p (fieldAt t h b f)
 
 -- 1 to 7 first, for any bytes and any numbers
 unfoldable pub cellOf : List ℕ → ℕ → ℕ → ℕ → Cell
-cellOf t b p f = cond (eqb (headerOf t .refusal) 0) (blockCell t (headerOf t) b p f) (Refused (headerOf t .refusal))
+cellOf t b p f = headerFirst t Refused (blockCell t (numbersOf t) b p f)
 
 -- the same as document 01's number and value
 unfoldable pub readOf : List ℕ → ℕ → ℕ → ℕ → ℕ × Content
 readOf t b p f = answerOf t (cellOf t b p f)
 
--- ---- where a cell stands
+-- where the text of a cell begins in the table; 0 where there is none
+abbrev pub textStart : List ℕ → ℕ → ℕ → ℕ → ℕ
+textStart t b p f = partOf (cellOf t b p f) .start
 
--- the cell at a block, place and field reads as a value: the kind and width are the stored pair's, the cell begins behind the
--- fields before it in its record, and it is inside the table
-pub record Stands (t : List ℕ) (b p f : ℕ) (v : Value) : Type 0 where
+-- the cell at a block, place and field reads as a value: it is located in the table, and its bytes mean the value
+pub record Stands (t : List ℕ) (h : Header) (b p f : ℕ) (v : Value) : Type 0 where
   pub kind : FieldKind
   pub width : ℕ
   pub at : ℕ
-  pub wide : width ≡ widthAt t (headerOf t .area) (f - 1)
-  pub stored : kindOf (byte t (headerOf t .area + 2 * (f - 1))) width ≡ Kind kind
-  pub permitted : Permitted kind width
-  pub begins : at ≡ recordAt (shapeOf (headerOf t)) b p + widthSum t (headerOf t .area) (f - 1)
-  pub inside : at + width ≤ length t
+  pub located : Located t h b p f kind width at
   pub means : cellAt kind t at width ≡ Is v

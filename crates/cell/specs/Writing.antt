@@ -16,8 +16,9 @@ use Rattle.header.specs.declared.kind.FieldKind.{FieldKind}
 use Rattle.header.specs.declared.kind.FieldKind.the-variants as Kin
 use Rattle.header.specs.declared.kind.StoredKind.{StoredKind}
 use Rattle.header.specs.declared.kind.StoredKind.the-variants.{Kind, Unknown}
-use Rattle.cell.specs.Values.{Content, nothing, blank, short, long, date, number, logical, text}
+use Rattle.cell.specs.Values.{Content, nothing, blank, short, long, date, number, logical, text, contentOf}
 use Rattle.cell.specs.Reading.{isDate, falseByte, trueByte}
+use Rattle.cell.specs.declared.value.Value.{Value}
 
 -- ---- the stored form
 
@@ -26,7 +27,8 @@ pub data Form : Type 0 where
   none : Form
   bytes : List ℕ → Form
 
--- short, long: z and the top bit added, where that is above 0 and fits w bytes; the least number would be the blank (11)
+-- short, long: z and the top bit added, where that is above 0 and fits w bytes; the least number would be the blank
+-- (11)
 unfoldable pub signedForm : ℕ → ℤ → Form
 signedForm w (pos m) = cond (ltb m (half w)) (bytes (digits w (m + half w))) none
 signedForm w (negsuc m) = cond (ltb (suc m) (half w)) (bytes (digits w (half w - suc m))) none
@@ -41,9 +43,11 @@ minusZero nan = false
 minusZero (inf s) = false
 minusZero (fin s m e) = s && eqb m 0
 
--- number, currency: the double's bits with the top bit complemented, where it is finite and not negative zero (11 else)
+-- number, currency: the double's bits with the top bit complemented, where it is finite and not negative zero (11
+-- else)
 unfoldable pub numberForm : ℕ → Float → Form
-numberForm w x = cond (finite x && not (minusZero x)) (bytes (digits w (complemented (half w) (toBits binary64 x)))) none
+numberForm w x =
+    cond (finite x && not (minusZero x)) (bytes (digits w (complemented (half w) (toBits binary64 x)))) none
 
 -- no byte is zero
 abbrev pub noZero : List ℕ → Bool
@@ -98,7 +102,9 @@ putValue w c buffer = cond (leb w (length buffer)) (putForm w (formOf w c) buffe
 
 -- 12 for a blob, whatever the value; 13 for a value of another kind
 unfoldable pub writeKind : FieldKind → ℕ → Content → List ℕ → ℕ × List ℕ
-writeKind kind w c buffer = cond (isBlob kind) (blobCell, buffer) (cond (ofKind c kind) (putValue w c buffer) (badArgument, buffer))
+writeKind kind w c buffer =
+    cond (isBlob kind) (blobCell, buffer)
+    (cond (ofKind c kind) (putValue w c buffer) (badArgument, buffer))
 
 -- 13 for a bad code or width
 unfoldable pub writeStored : StoredKind → ℕ → Content → List ℕ → ℕ × List ℕ
@@ -108,3 +114,7 @@ writeStored (Kind kind) w c buffer = writeKind kind w c buffer
 -- the answer and the whole buffer after it: 13, 12, 14, 11 in that order, and a refusal leaves the buffer as it was
 unfoldable pub writeOf : ℕ → ℕ → Content → List ℕ → ℕ × List ℕ
 writeOf code w c buffer = writeStored (kindOf code w) w c buffer
+
+-- the same of a Value, whose text is a part of lent bytes
+abbrev pub writtenOf : ℕ → ℕ → List ℕ → Value → List ℕ → ℕ × List ℕ
+writtenOf code w s v buffer = writeOf code w (contentOf s v) buffer

@@ -4,19 +4,22 @@ mod double;
 mod form;
 mod kinds;
 mod limits;
+mod locate;
 mod part;
 mod put;
 mod value;
 
+pub use locate::Place;
+pub use locate::field_in;
+pub use locate::place_in;
 pub use value::Cell;
 pub use value::Value;
 ghost use mathlib.Core.Path.{_≡_};
 ghost use denote.Ref.{ptr};
 ghost use Rattle.header.specs.Rules.{Accepted};
-ghost use Rattle.cell.specs.Values.{answerOf, behind, contentOf, partOf, textOf};
-ghost use Rattle.cell.specs.Reading.{blockCell, cellOf, readOf};
-ghost use Rattle.cell.specs.Writing.{writeOf};
-use blocks::Count;
+ghost use Rattle.cell.specs.Values.{answerOf, behind, textOf};
+ghost use Rattle.cell.specs.Reading.{blockCell, cellOf, readOf, textStart};
+ghost use Rattle.cell.specs.Writing.{writtenOf};
 use header::Field;
 use header::FieldKind;
 use header::Header;
@@ -26,12 +29,14 @@ use header::refusal;
 // The cell at a block, a place (from 0) and a field (from 1) of any bytes: its value, or the first of
 // 1 to 7, 13, 9, 13, 12 and 11 that applies. A free block is read like a used one.
 pub fn read(table: &[u8], block: usize, place: usize, field: usize) -> Cell
-    ensures { λ r. ⌜ (r ≡ cellOf (now (table .entry)) block place field) × (answerOf (now (table .entry)) r ≡ readOf (now (table .entry)) block place field) ⌝ }
+    ensures { λ r. ⌜ r ≡ cellOf (now (table .entry)) block place field ⌝ }
+    ensures { λ r. ⌜ answerOf (now (table .entry)) r ≡ readOf (now (table .entry)) block place field ⌝ }
 {
-    let h = header::read(table);
-    if h.refusal != refusal::ACCEPTED {
-        return Cell::Refused(h.refusal);
+    let answer = header::read(table);
+    if answer.refusal != refusal::ACCEPTED {
+        return Cell::Refused(answer.refusal);
     }
+    let h = answer.header;
     read_in(table, h, block, place, field)
 }
 
@@ -41,31 +46,24 @@ pub fn read_in(table: &[u8], h: Header, block: usize, place: usize, field: usize
     requires { ⌜ Accepted (now table) h ⌝ }
     ensures { λ r. ⌜ r ≡ blockCell (now (table .entry)) h block place field ⌝ }
 {
-    let shape = blocks::shape_of(h);
-    if !blocks::has_block(shape, block) {
-        return Cell::Refused(refusal::BAD_ARGUMENT);
-    }
     let Field::Is {
         kind,
         width,
         offset,
-    } = header::field_of(table, h, field)
+    } = locate::field_in(table, h, block, field)
     else {
         return Cell::Refused(refusal::BAD_ARGUMENT);
     };
-    let Count::Records(records) = blocks::count_in(table, shape, block) else {
-        return Cell::Refused(refusal::WRONG_COUNT);
-    };
-    if records as usize <= place {
-        return Cell::Refused(refusal::BAD_ARGUMENT);
+    match locate::place_in(table, blocks::shape_of(h), block, place, offset) {
+        Place::At(at) => decode::cell_at(table, kind, at, width as usize),
+        Place::Refused(number) => Cell::Refused(number),
     }
-    let at = blocks::record_at(shape, block, place) + offset as usize;
-    decode::cell_at(table, kind, at, width as usize)
 }
 
 // The text of a cell as the part of the table it is, bytes and address; empty where `read` gives no text.
 pub fn text(table: &[u8], block: usize, place: usize, field: usize) -> &[u8]
-    ensures { λ r. ⌜ (now r ≡ textOf (readOf (now (table .entry)) block place field .1)) × (ptr r ≡ behind (ptr (table .entry)) (partOf (cellOf (now (table .entry)) block place field) .start)) ⌝ }
+    ensures { λ r. ⌜ now r ≡ textOf (readOf (now (table .entry)) block place field .1) ⌝ }
+    ensures { λ r. ⌜ ptr r ≡ behind (ptr (table .entry)) (textStart (now (table .entry)) block place field) ⌝ }
 {
     let part = part::text_part(read(table, block, place, field));
     let start = part.start;
@@ -77,7 +75,7 @@ pub fn text(table: &[u8], block: usize, place: usize, field: usize) -> &[u8]
 // `text` that the value names; 13 where there is no such part. Answers 0, or the first of 13, 12, 14 and
 // 11 that applies, and then the buffer is as it was. Behind the width no byte is touched.
 pub fn write(code: u8, width: usize, value: Value, text: &[u8], buffer: &mut [u8]) -> u8
-    ensures { λ r. ⌜ (r, now (buffer .exit)) ≡ writeOf code width (contentOf (now (text .entry)) value) (now (buffer .entry)) ⌝ }
+    ensures { λ r. ⌜ (r, now (buffer .exit)) ≡ writtenOf code width (now (text .entry)) value (now (buffer .entry)) ⌝ }
 {
     let StoredKind::Kind(kind) = FieldKind::of(code, width) else {
         return refusal::BAD_ARGUMENT;

@@ -2,15 +2,13 @@
 // The module is private: its functions are helpers of `cell::write`, which meets what they require.
 ghost use mathlib.Core.Path.{_≡_};
 ghost use mathlib.Core.Bool.{cond};
-ghost use mathlib.Core.List.{_++_};
-ghost use Prim.Native.Nat.{_+_, _-_, _≤_};
+ghost use Prim.Native.Nat.{_+_, _≤_};
 ghost use lib.Dec.{ltb};
-ghost use lib.ListN.{drop, length, replicate};
+ghost use lib.ListN.{length};
 ghost use Rattle.words.specs.Numbers.{byte};
-ghost use Rattle.words.specs.Order.{range};
 ghost use Rattle.cell.specs.Values.{contentOf};
-ghost use Rattle.cell.specs.Writing.{formOf, putForm, textForm};
-ghost use Rattle.cell.specs.Steps.{TextInside, OfWidth, codedForm};
+ghost use Rattle.cell.specs.Writing.{putForm};
+ghost use Rattle.cell.specs.Steps.{OfWidth, TextInside, codedForm, paddedOver, putOf, putText};
 use crate::form;
 use crate::form::Coded;
 use crate::value::Value;
@@ -42,7 +40,7 @@ fn padded(text: &[u8], start: usize, len: usize, i: usize) -> u8
 // Writes a text and the zeros behind it.
 fn copy_text(buffer: &mut [u8], width: usize, text: &[u8], start: usize, len: usize)
     requires { ⌜ (width ≤ length (now buffer)) × (len ≤ width) × (start + len ≤ length (now text)) ⌝ }
-    ensures { λ _. ⌜ now (buffer .exit) ≡ (range (now (text .entry)) start len ++ replicate (width - len) 0) ++ drop width (now (buffer .entry)) ⌝ }
+    ensures { λ _. ⌜ now (buffer .exit) ≡ paddedOver (now (text .entry)) start len width (now (buffer .entry)) ⌝ }
 {
     let mut i: usize = 0;
     while i < width {
@@ -54,7 +52,7 @@ fn copy_text(buffer: &mut [u8], width: usize, text: &[u8], start: usize, len: us
 // Writes a text of 1 to `width` bytes without a zero.
 fn put_text(buffer: &mut [u8], width: usize, text: &[u8], start: usize, len: usize) -> u8
     requires { ⌜ (width ≤ length (now buffer)) × (start + len ≤ length (now text)) ⌝ }
-    ensures { λ r. ⌜ (r, now (buffer .exit)) ≡ putForm width (textForm width (range (now (text .entry)) start len)) (now (buffer .entry)) ⌝ }
+    ensures { λ r. ⌜ (r, now (buffer .exit)) ≡ putText width (now (text .entry)) start len (now (buffer .entry)) ⌝ }
 {
     if len < 1 {
         return refusal::NO_MEANING;
@@ -72,8 +70,10 @@ fn put_text(buffer: &mut [u8], width: usize, text: &[u8], start: usize, len: usi
 // Writes a value of the width that its kind has, where it has a stored form. A helper of `cell::write`,
 // which has judged the kind, the width and the buffer.
 pub fn put_value(value: Value, width: usize, text: &[u8], buffer: &mut [u8]) -> u8
-    requires { ⌜ (width ≤ length (now buffer)) × OfWidth (contentOf (now text) value) width × TextInside (now text) value ⌝ }
-    ensures { λ r. ⌜ (r, now (buffer .exit)) ≡ putForm width (formOf width (contentOf (now (text .entry)) value)) (now (buffer .entry)) ⌝ }
+    requires { ⌜ width ≤ length (now buffer) ⌝ }
+    requires { ⌜ OfWidth (contentOf (now text) value) width ⌝ }
+    requires { ⌜ TextInside (now text) value ⌝ }
+    ensures { λ r. ⌜ (r, now (buffer .exit)) ≡ putOf width (now (text .entry)) value (now (buffer .entry)) ⌝ }
 {
     match value {
         Value::Blank => put_coded(buffer, width, Coded::Number(0)),

@@ -3,3 +3,4 @@ pub mod FollowLaws
 pub mod MarkLaws
 pub mod SumLaws
 pub mod RuleLaws
+pub mod GoodChainLaws

@@ -1,4 +1,5 @@
--- Lists of block numbers: a test of every number, how often a number stands in a list, the marks of n blocks. Assumes nothing.
+-- Lists of block numbers: a test of every number, how often a number stands in a list, the marks of n blocks. Assumes
+-- nothing.
 use Prim.Native.Nat.{ℕ, zero, suc, _+_, _<_, suc-le-suc}
 use mathlib.Core.Path.{_≡_, refl, _∙_}
 use mathlib.Core.Bool.{Bool, true}
@@ -31,15 +32,18 @@ module _ (test : ℕ → Bool) where
 pub marks-length : (n : ℕ) (used : List ℕ) → length (marksOf n used) ≡ n
 unfolding marksOf
 marks-length zero used = refl
-marks-length (suc n) used = length-append (marksOf n used) (markOf used (suc n) ∷ []) ∙ rw (marks-length n used) (omega arith)
+marks-length (suc n) used =
+    length-append (marksOf n used) (markOf used (suc n) ∷ []) ∙ rw (marks-length n used) (omega arith)
 
 pub mark-at : (n : ℕ) (used : List ℕ) (i : ℕ) → i < n → getD (marksOf n used) i 0 ≡ markOf used (suc i)
 unfolding marksOf
 mark-at zero used i h = absurd (not-suc-le-zero h)
-mark-at (suc n) used i h = ⊎-elim at-end (λ l. before-end l (mark-at n used i l)) (eq-or-lt-of-le {n = i} {m = n} (omega arith))
+mark-at (suc n) used i h =
+    ⊎-elim at-end (λ l. before-end l (mark-at n used i l)) (eq-or-lt-of-le {n = i} {m = n} (omega arith))
   where
     at-end : i ≡ n → getD (marksOf n used ++ (markOf used (suc n) ∷ [])) i 0 ≡ markOf used (suc i)
     at-end e = rw e (getD-at (marksOf n used) (markOf used (suc n)) [] 0 n (marks-length n used))
 
-    before-end : i < n → getD (marksOf n used) i 0 ≡ markOf used (suc i) → getD (marksOf n used ++ (markOf used (suc n) ∷ [])) i 0 ≡ markOf used (suc i)
+    before-end : i < n → getD (marksOf n used) i 0 ≡ markOf used (suc i) →
+        getD (marksOf n used ++ (markOf used (suc n) ∷ [])) i 0 ≡ markOf used (suc i)
     before-end l e = List·getD-append (marksOf n used) (markOf used (suc n) ∷ []) 0 i (rw marks-length l) ∙ e

@@ -1,5 +1,6 @@
--- Two chains followed with marks keep the chain rules exactly where each block may be taken and every block has a mark then. A mark
--- counts as 1 where it is set; with how often a chain has a block, each rule is a sum. Assumes nothing.
+-- Two chains followed with marks keep the chain rules exactly where each block may be taken and every block has a
+-- mark then. A mark counts as 1 where it is set; with how often a chain has a block, each rule is a sum. Assumes
+-- nothing.
 use Prim.Native.Nat.{ℕ, zero, suc, _+_, _-_, _≤_, _<_}
 use mathlib.Core.Path.{_≡_, refl, sym, _∙_}
 use mathlib.Core.Bool.{Bool, true, false, cond, not, _&&_}
@@ -16,9 +17,10 @@ use Rattle.words.proofs.Conjunctions.{both, join}
 use Rattle.words.proofs.EachLaws.{each-gives, each-takes}
 use Rattle.blocks.specs.Shape.{inFile}
 use Rattle.blocks.proofs.ShapeLaws.{in-file, file-has}
-use Rattle.chain.specs.Chain.{Links, every, times, everyBlockOnce, linked, names, lastOf, usedChain, freeChain, chainsRight}
-use Rattle.chain.specs.Marks.{marksOf}
-use Rattle.chain.specs.Steps.{isUnmarked, takes, takesAll, marked, hasMark, allMarked, anyTwo}
+use Rattle.chain.specs.Chain.{Links, every, times, everyBlockOnce, linked, names, lastOf, usedChain, freeChain}
+use Rattle.chain.specs.Chain.{chainsRight}
+use Rattle.chain.specs.Marks.{marksOf, isUnmarked, hasMark, allMarked}
+use Rattle.chain.specs.Following.{takes, takesAll, marked, anyTwo}
 use Rattle.chain.proofs.ListLaws.{marks-length, mark-at}
 use Rattle.chain.proofs.FollowLaws.{unmarked-gives}
 
@@ -53,11 +55,15 @@ unfolding every marked times
 marked-at mark [] m n e i h = refl
 marked-at mark (b ∷ bs) m n e i h =
     let q = both {a = inFile n b} {b = every (inFile n) bs} e in
-    marked-at mark bs (set m (b - 1) mark) n (q .1) i (rw length-set h) ∙ go (in-file n b (q .0) .0) (eqb b (suc i)) refl
+    marked-at mark bs (set m (b - 1) mark) n (q .1) i (rw length-set h)
+    ∙ go (in-file n b (q .0) .0) (eqb b (suc i)) refl
   where
     go : 1 ≤ b → (t : Bool) → eqb b (suc i) ≡ t
-        → cond (eqb (times (suc i) bs) 0) (getD (set m (b - 1) mark) i 0) mark ≡ cond (eqb (cond (eqb b (suc i)) 1 0 + times (suc i) bs) 0) (getD m i 0) mark
-    go low true r = rw (r, set-same m mark b i low h (eqb-true b (suc i) r), one-add, eqb·suc-zero) (cond-same (eqb (times (suc i) bs) 0) mark)
+        → cond (eqb (times (suc i) bs) 0) (getD (set m (b - 1) mark) i 0) mark ≡ cond
+        (eqb (cond (eqb b (suc i)) 1 0 + times (suc i) bs) 0) (getD m i 0) mark
+    go low true r =
+        rw (r, set-same m mark b i low h (eqb-true b (suc i) r), one-add, eqb·suc-zero)
+        (cond-same (eqb (times (suc i) bs) 0) mark)
     go low false r = rw (r, set-other m mark b i low h (eqb-false b (suc i) r), zero-add)
 
 -- what a mark adds, the chain's own count gave before it
@@ -67,7 +73,8 @@ unfolding times
 shift m mark b i bs low pos h no-mark = go (eqb b (suc i)) refl
   where
     go : (t : Bool) → eqb b (suc i) ≡ t
-        → seen (getD (set m (b - 1) mark) i 0) + times (suc i) bs ≡ seen (getD m i 0) + (cond (eqb b (suc i)) 1 0 + times (suc i) bs)
+        → seen (getD (set m (b - 1) mark) i 0) + times (suc i) bs ≡ seen
+        (getD m i 0) + (cond (eqb b (suc i)) 1 0 + times (suc i) bs)
     go true r =
         let e : b ≡ suc i = eqb-true b (suc i) r in
         let q : b - 1 ≡ i = omega arith in
@@ -130,7 +137,9 @@ module _ (test : ℕ → ℕ → Bool) (mark : ℕ) (pos : 0 < mark) where
       (record {
         within = rw length-set (q .1);
         named = l .1;
-        apart = λ i h. let k : i < length m = rw length-set at h in rw (shift m mark b i bs (r .0) pos k no-mark) (t .apart i k);
+        apart =
+            λ i h. let k : i < length m = rw length-set at h in rw (shift m mark b i bs (r .0) pos k no-mark)
+            (t .apart i k);
       }))
 
 any-linked : (before : ℕ) (bs : List ℕ) → linked anyTwo before bs ≡ true
@@ -192,7 +201,8 @@ module _ (n : ℕ) (l : Links) where
   right-takes r =
       join
       (join
-      (join (join (r .used-in) (r .free-in)) (each-takes (λ (i : ℕ). eqb (times (suc i) used + times (suc i) free) 1) n (λ i h. eq-eqb (times (suc i) used + times (suc i) free) 1 (r .once i h))))
+      (join (join (r .used-in) (r .free-in)) (each-takes (λ (i : ℕ). eqb (times (suc i) used + times (suc i) free) 1) n
+      (λ i h. eq-eqb (times (suc i) used + times (suc i) free) 1 (r .once i h))))
       (r .named))
       (r .ends)
 
@@ -206,7 +216,9 @@ module _ (n : ℕ) (l : Links) where
       record {
         used-in = q₁ .0;
         free-in = q₁ .1;
-        once = λ i h. eqb-true (times (suc i) used + times (suc i) free) 1 (each-gives (λ (j : ℕ). eqb (times (suc j) used + times (suc j) free) 1) n (q₂ .1) i h);
+        once =
+            λ i h. eqb-true (times (suc i) used + times (suc i) free) 1
+            (each-gives (λ (j : ℕ). eqb (times (suc j) used + times (suc j) free) 1) n (q₂ .1) i h);
         named = q₃ .1;
         ends = q₄ .1;
       }
@@ -217,8 +229,10 @@ module _ (n : ℕ) (l : Links) where
   all-length : length all-marks ≡ n
   all-length = marked-length 2 free first-marks ∙ first-length
 
-  first-mark : every (inFile n) used ≡ true → (i : ℕ) → i < n → getD first-marks i 0 ≡ cond (eqb (times (suc i) used) 0) 0 1
-  first-mark e i h = rw (marked-at 1 used (replicate n 0) n e i (rw length-replicate h), getD-replicate {A = ℕ} n i 0 0 h)
+  first-mark : every (inFile n) used ≡ true → (i : ℕ) → i < n →
+      getD first-marks i 0 ≡ cond (eqb (times (suc i) used) 0) 0 1
+  first-mark e i h =
+      rw (marked-at 1 used (replicate n 0) n e i (rw length-replicate h), getD-replicate {A = ℕ} n i 0 0 h)
 
   both-mark : every (inFile n) used ≡ true → every (inFile n) free ≡ true → (i : ℕ) → i < n
       → getD all-marks i 0 ≡ cond (eqb (times (suc i) free) 0) (cond (eqb (times (suc i) used) 0) 0 1) 2
@@ -241,18 +255,24 @@ module _ (n : ℕ) (l : Links) where
       (goes (names (l .previous)) 1 (omega arith) 0 used (replicate n 0) (record {
         within = rw length-replicate (r .used-in);
         named = r .named;
-        apart = λ i h. let k : i < n = rw length-replicate at h in rw (getD-replicate {A = ℕ} n i 0 0 k) (omega (arith, r .once i k));
+        apart =
+            λ i h. let k : i < n = rw length-replicate at h in rw (getD-replicate {A = ℕ} n i 0 0 k)
+            (omega (arith, r .once i k));
       }))
       (join (r .ends)
       (join
       (goes anyTwo 2 (omega arith) 0 free first-marks (record {
         within = rw first-length (r .free-in);
         named = any-linked 0 free;
-        apart = λ i h. let k : i < n = rw first-length at h in rw (first-mark (r .used-in) i k, seen-used (times (suc i) used) (omega (arith, r .once i k))) (omega (arith, r .once i k));
+        apart =
+            λ i h. let k : i < n = rw first-length at
+            h in rw (first-mark (r .used-in) i k, seen-used (times (suc i) used) (omega (arith, r .once i k)))
+            (omega (arith, r .once i k));
       }))
       (each-takes (hasMark all-marks) (length all-marks) (λ i h.
       let k : i < n = rw all-length at h in
-      rw (both-mark (r .used-in) (r .free-in) i k, mark-is (times (suc i) used) (times (suc i) free) (r .once i k)) (mark-set (times (suc i) used))))))
+      rw (both-mark (r .used-in) (r .free-in) i k, mark-is (times (suc i) used) (times (suc i) free) (r .once i k))
+      (mark-set (times (suc i) used))))))
 
   tests-right : tests ≡ true → Right
   unfolding allMarked
@@ -270,9 +290,11 @@ module _ (n : ℕ) (l : Links) where
         once = λ i h.
             let u = times (suc i) used in
             let a₁ : seen 0 + u ≤ 1 = rw (getD-replicate {A = ℕ} n i 0 0 h) at (t₁ .apart i (rw length-replicate h)) in
-            let a₂ : u + times (suc i) free ≤ 1 = rw (first-mark ui i h, seen-used u (omega arith)) at (t₂ .apart i (rw first-length h)) in
+            let a₂ : u + times (suc i) free ≤ 1 = rw (first-mark ui i h, seen-used u (omega arith)) at
+            (t₂ .apart i (rw first-length h)) in
             let nz = each-gives (hasMark all-marks) (length all-marks) (q₃ .1) i (rw all-length h) in
-            one-of u (times (suc i) free) a₂ (λ y. eqb-false (getD all-marks i 0) 0 (not-true _ nz) (both-mark ui fi i h ∙ y));
+            one-of u (times (suc i) free) a₂ (λ y. eqb-false (getD all-marks i 0) 0 (not-true _ nz)
+            (both-mark ui fi i h ∙ y));
         named = t₁ .named;
         ends = q₂ .0;
       }

@@ -1,5 +1,5 @@
--- The chain rules as tests are the chain rules as propositions. A chain that keeps them is not cut: it has no more numbers than there
--- are blocks. Assumes nothing.
+-- The chain rules as tests are the chain rules as propositions. A chain that keeps them is not cut: it has no more
+-- numbers than there are blocks. Assumes nothing.
 use Prim.Native.Nat.{ℕ, zero, suc, _+_, _-_, _≤_, _<_}
 use mathlib.Core.Path.{_≡_, refl, sym, ap, _∙_}
 use mathlib.Core.Bool.{Bool, true, false, cond, false≢true}
@@ -12,7 +12,8 @@ use borrow.Author.Tests.{eqb-true, eq-eqb}
 use Rattle.words.proofs.Conjunctions.{both, join}
 use Rattle.blocks.specs.Shape.{inFile}
 use Rattle.blocks.proofs.ShapeLaws.{in-file, file-has}
-use Rattle.chain.specs.Chain.{Links, follow, every, times, linked, names, lastOf, usedChain, freeChain, chainsRight}
+use Rattle.chain.specs.Chain.{Links, follow, every, times, linked, names, lastOf, usedChain, freeChain}
+use Rattle.chain.specs.Chain.{chainsRight}
 use Rattle.chain.specs.Marks.{usedMark, freeMark, markOf, marksOf}
 use Rattle.chain.specs.Rules.{Chain, ends, leads, Inside, ChainRules}
 use Rattle.chain.proofs.ListLaws.{every-gives, every-takes, mark-at}
@@ -26,7 +27,8 @@ follow-ends : (next : ℕ → ℕ) (k b : ℕ) → length (follow next k b) < k 
 unfolding follow
 follow-ends next zero b l = absurd (not-suc-le-zero l)
 follow-ends next (suc k) zero l = ends
-follow-ends next (suc k) (suc b) l = leads {b = suc b} (omega arith) (follow-ends next k (next (suc b)) (le-of-suc-le-suc l))
+follow-ends next (suc k) (suc b) l =
+    leads {b = suc b} (omega arith) (follow-ends next k (next (suc b)) (le-of-suc-le-suc l))
 
 -- a chain is what following next gives
 pub follow-is : (next : ℕ → ℕ) (k b : ℕ) (bs : List ℕ) → Chain next b bs → length bs < k → follow next k b ≡ bs
@@ -34,7 +36,8 @@ unfolding follow
 follow-is next zero b bs c l = absurd (not-suc-le-zero l)
 follow-is next (suc k) zero [] c l = refl
 follow-is next (suc k) zero (x ∷ bs) (leads low c) l = absurd (not-suc-le-zero low)
-follow-is next (suc k) (suc b) (x ∷ bs) (leads low c) l = ap (λ (r : List ℕ). suc b ∷ r) (follow-is next k (next (suc b)) bs c (le-of-suc-le-suc l))
+follow-is next (suc k) (suc b) (x ∷ bs) (leads low c) l =
+    ap (λ (r : List ℕ). suc b ∷ r) (follow-is next k (next (suc b)) bs c (le-of-suc-le-suc l))
 
 -- ---- every number a block's
 
@@ -48,7 +51,8 @@ inside-takes n bs h = every-takes (inFile n) bs (λ i l. file-has n (getD bs i 0
 outside : (n b : ℕ) (bs : List ℕ) → every (inFile n) bs ≡ true → inFile n b ≡ false → times b bs ≡ 0
 unfolding every times
 outside n b [] e f = refl
-outside n b (x ∷ bs) e f = let p = both {a = inFile n x} {b = every (inFile n) bs} e in go (p .0) (eqb x b) refl (outside n b bs (p .1) f)
+outside n b (x ∷ bs) e f =
+    let p = both {a = inFile n x} {b = every (inFile n) bs} e in go (p .0) (eqb x b) refl (outside n b bs (p .1) f)
   where
     go : inFile n x ≡ true → (t : Bool) → eqb x b ≡ t → times b bs ≡ 0 → cond t 1 0 + times b bs ≡ 0
     go i true y z = absurd (false≢true (sym f ∙ ap (inFile n) (sym (eqb-true x b y)) ∙ i))
@@ -57,21 +61,32 @@ outside n b (x ∷ bs) e f = let p = both {a = inFile n x} {b = every (inFile n)
 -- ---- predecessors
 
 module _ (previous : ℕ → ℕ) where
-  linked-first : (before : ℕ) (bs : List ℕ) → linked (names previous) before bs ≡ true → 1 ≤ length bs → previous (getD bs 0 0) ≡ before
+  linked-first : (before : ℕ) (bs : List ℕ) → linked (names previous) before bs ≡ true → 1 ≤ length bs →
+      previous (getD bs 0 0) ≡ before
   unfolding linked
   linked-first before [] e l = absurd (not-suc-le-zero l)
-  linked-first before (b ∷ bs) e l = eqb-true (previous b) before (both {a = names previous before b} {b = linked (names previous) b bs} e .0)
+  linked-first before (b ∷ bs) e l =
+      eqb-true (previous b) before (both {a = names previous before b} {b = linked (names previous) b bs} e .0)
 
-  linked-gives : (before : ℕ) (bs : List ℕ) → linked (names previous) before bs ≡ true → (i : ℕ) → suc i < length bs → previous (getD bs (suc i) 0) ≡ getD bs i 0
+  linked-gives : (before : ℕ) (bs : List ℕ) → linked (names previous) before bs ≡ true → (i : ℕ) → suc i < length bs →
+      previous (getD bs (suc i) 0) ≡ getD bs i 0
   unfolding linked
   linked-gives before [] e i l = absurd (not-suc-le-zero l)
-  linked-gives before (b ∷ bs) e zero l = linked-first b bs (both {a = names previous before b} {b = linked (names previous) b bs} e .1) (le-of-suc-le-suc l)
-  linked-gives before (b ∷ bs) e (suc i) l = linked-gives b bs (both {a = names previous before b} {b = linked (names previous) b bs} e .1) i (le-of-suc-le-suc l)
+  linked-gives before (b ∷ bs) e zero l =
+      linked-first b bs (both {a = names previous before b} {b = linked (names previous) b bs} e .1)
+      (le-of-suc-le-suc l)
+  linked-gives before (b ∷ bs) e (suc i) l =
+      linked-gives b bs (both {a = names previous before b} {b = linked (names previous) b bs} e .1) i
+      (le-of-suc-le-suc l)
 
-  linked-takes : (before : ℕ) (bs : List ℕ) → (1 ≤ length bs → previous (getD bs 0 0) ≡ before) → ((i : ℕ) → suc i < length bs → previous (getD bs (suc i) 0) ≡ getD bs i 0) → linked (names previous) before bs ≡ true
+  linked-takes : (before : ℕ) (bs : List ℕ) → (1 ≤ length bs → previous (getD bs 0 0) ≡ before) →
+      ((i : ℕ) → suc i < length bs → previous (getD bs (suc i) 0) ≡ getD bs i 0) →
+      linked (names previous) before bs ≡ true
   unfolding linked
   linked-takes before [] f h = refl
-  linked-takes before (b ∷ bs) f h = join (eq-eqb (previous b) before (f (omega arith))) (linked-takes b bs (λ l. h 0 (omega arith)) (λ i l. h (suc i) (omega arith)))
+  linked-takes before (b ∷ bs) f h =
+      join (eq-eqb (previous b) before (f (omega arith)))
+      (linked-takes b bs (λ l. h 0 (omega arith)) (λ i l. h (suc i) (omega arith)))
 
 -- ---- the rules
 
@@ -97,13 +112,16 @@ module _ (n : ℕ) (l : Links) where
         ends-at = eqb-true (lastOf 0 used) (l .last) (r .ends);
       }
     where
-      once : ((i : ℕ) → i < n → times (suc i) used + times (suc i) free ≡ 1) → (b : ℕ) → 1 ≤ b → b ≤ n → times b used + times b free ≡ 1
+      once : ((i : ℕ) → i < n → times (suc i) used + times (suc i) free ≡ 1) → (b : ℕ) → 1 ≤ b → b ≤ n →
+          times b used + times b free ≡ 1
       once h zero low high = absurd (not-suc-le-zero low)
       once h (suc b) low high = h b high
 
   -- two chains that keep the rules have as many numbers as there are blocks
   pub rules-length : (us vs : List ℕ) → ChainRules n l us vs → length us + length vs ≡ n
-  rules-length us vs r = once-length n us vs (inside-takes n us (r .used-inside)) (inside-takes n vs (r .free-inside)) (λ i h. r .once (suc i) (omega arith) h)
+  rules-length us vs r =
+      once-length n us vs (inside-takes n us (r .used-inside)) (inside-takes n vs (r .free-inside))
+      (λ i h. r .once (suc i) (omega arith) h)
 
   -- no number is twice in the used chain
   pub rules-once : (us vs : List ℕ) → ChainRules n l us vs → (b : ℕ) → times b us ≤ 1
@@ -122,7 +140,8 @@ module _ (n : ℕ) (l : Links) where
     free-is = follow-is (l .next) (suc n) (l .free) vs (r .free-chain) (omega (arith, rules-length us vs r))
 
     marked-as : (b : ℕ) → 1 ≤ b → b ≤ n → getD (marksOf n us) (b - 1) 0 ≡ markOf us b
-    marked-as b low high = let e : suc (b - 1) ≡ b = omega arith in mark-at n us (b - 1) (omega arith) ∙ ap (markOf us) e
+    marked-as b low high =
+        let e : suc (b - 1) ≡ b = omega arith in mark-at n us (b - 1) (omega arith) ∙ ap (markOf us) e
 
     pub rules-take : chainsRight n l ≡ true
     rules-take =

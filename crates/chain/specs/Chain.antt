@@ -1,5 +1,5 @@
--- Chain rules (refusal 8), for any links between n blocks: next and previous are functions of a block's number. A chain is the list
--- of its blocks' numbers. Definitions only.
+-- Chain rules (refusal 8), for any links between n blocks: next and previous are functions of a block's number. A
+-- chain is the list of its blocks' numbers. Definitions only.
 use Prim.Native.Nat.{ℕ, zero, suc, _+_}
 use mathlib.Core.Bool.{Bool, true, cond, _&&_}
 use mathlib.Core.List.{List, [], _∷_}
@@ -21,8 +21,8 @@ follow next zero b = []
 follow next (suc k) zero = []
 follow next (suc k) (suc b) = suc b ∷ follow next k (next (suc b))
 
--- the chain that starts at b, among n blocks. One of more than n numbers is cut after n + 1: they can't be n blocks, each once, so
--- it is broken however it goes on
+-- the chain that starts at b, among n blocks. One of more than n numbers is cut after n + 1: they can't be n blocks,
+-- each once, so it is broken however it goes on
 abbrev pub chainFrom : (ℕ → ℕ) → ℕ → ℕ → List ℕ
 chainFrom next n b = follow next (suc n) b
 
@@ -61,8 +61,9 @@ unfoldable pub lastOf : ℕ → List ℕ → ℕ
 lastOf before [] = before
 lastOf before (b ∷ bs) = lastOf b bs
 
--- 8: every number is a block's; every block is in exactly one chain, once; the first used block has previous 0 and every other one
--- names its predecessor; the last one is the last block, and where the used chain is empty that word is 0
+-- 8: every number is a block's; every block is in exactly one chain, once; the first used block has previous 0 and
+-- every other one names its predecessor; the last one is the last block, and where the used chain is empty that word
+-- is 0
 unfoldable pub chainsRight : ℕ → Links → Bool
 chainsRight n l =
     every (inFile n) (usedChain n l)

@@ -2,4 +2,4 @@ pub mod Chain
 pub mod Links
 pub mod Marks
 pub mod Rules
-pub mod Steps
+pub mod Following

@@ -5,7 +5,7 @@ use Rattle.words.specs.Numbers.{word}
 use Rattle.header.specs.declared.Header.{Header}
 use Rattle.blocks.specs.Shape.{shapeOf, blockAt}
 use Rattle.blocks.specs.declared.Shape.{Shape}
-use Rattle.chain.specs.Chain.{Links, usedChain, freeChain}
+use Rattle.chain.specs.Chain.{Links, chainFrom, usedChain, freeChain}
 
 -- where the second word of a block's head stands
 abbrev pub previousWord : ℕ
@@ -17,6 +17,10 @@ nextOf t g b = word t (blockAt g b)
 
 unfoldable pub previousOf : List ℕ → Shape → ℕ → ℕ
 previousOf t g b = word t (blockAt g b + previousWord)
+
+-- the blocks from number b on, one after another by next
+abbrev pub blocksFrom : List ℕ → Shape → ℕ → List ℕ
+blocksFrom t g b = chainFrom (nextOf t g) (g .blocks) b
 
 -- the links of a table, by its header
 abbrev pub linksOf : List ℕ → Header → Links

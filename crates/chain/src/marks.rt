@@ -3,8 +3,7 @@ ghost use mathlib.Core.Path.{_≡_};
 ghost use mathlib.Core.List.{_++_};
 ghost use Prim.Native.Nat.{_≤_};
 ghost use lib.ListN.{drop, length, replicate};
-ghost use Rattle.chain.specs.Marks.{unmarked};
-ghost use Rattle.chain.specs.Steps.{allMarked, isUnmarked};
+ghost use Rattle.chain.specs.Marks.{allMarked, isUnmarked, unmarked};
 
 // No chain has the block so far.
 pub const UNMARKED: u8 = 0;

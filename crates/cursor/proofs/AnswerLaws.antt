@@ -1,8 +1,9 @@
--- What each answer is, for any bytes and any cursor: a refusal hands back the cursor it was given, the end is one with numbers 0, and a
--- record is one that a block of the file counts, after the cursor that was stepped. Assumes nothing.
+-- What each answer is, for any bytes and any cursor: a refusal hands back the cursor it was given, the end is one
+-- with numbers 0, and a record is one that a block of the file counts, after the cursor that was stepped. Assumes
+-- nothing.
 use Prim.Native.Nat.{ℕ, zero, suc, _+_, _-_, _≤_, _<_}
 use mathlib.Core.Path.{_≡_, refl}
-use mathlib.Core.Bool.{Bool, true, false}
+use mathlib.Core.Bool.{Bool, true, false, cond}
 use mathlib.Core.List.{List}
 use mathlib.Core.Logic.{⊎-elim}
 use native.Mathlib.Numerals.{add-one}
@@ -10,33 +11,44 @@ use native.Mathlib.Omega.{arith}
 use lib.Dec.{eqb}
 use borrow.Author.Tests.{eqb-true, eqb-false}
 use Rattle.words.proofs.Cases.{lt-or-ge}
-use Rattle.header.specs.Header.{headerOf}
+use Rattle.header.specs.Header.{headerRefusal}
+use Rattle.header.specs.Numbers.{numbersOf}
+use Rattle.header.proofs.AcceptedLaws.{first-holds}
+use Rattle.header.specs.Refusals.{chainRule, wrongCount, badArgument}
 use Rattle.blocks.specs.Shape.{shapeOf}
 use Rattle.blocks.specs.Counts.{countIn}
 use Rattle.blocks.specs.declared.Shape.{Shape}
 use Rattle.blocks.specs.declared.count.Count.{Count}
 use Rattle.blocks.specs.declared.count.Count.the-variants.{Records, Bad}
 use Rattle.chain.specs.Links.{nextOf}
-use Rattle.cursor.specs.Cursor.{atEnd, standing, inReach, firstFrom, startOf, stepIn, stepOf}
+use Rattle.cursor.specs.Cursor.{atEnd, standing, inReach, firstFrom, startOf, stepIn, stepOf, startIn}
 use Rattle.cursor.specs.Rules.{OnRecord, Answered, found, over, refusing, After, next-place, more-moves}
 use Rattle.cursor.specs.declared.Cursor.{Cursor}
 use Rattle.cursor.specs.declared.Step.{Step}
 use Rattle.cursor.specs.declared.Step.the-variants.{Record, End, Refused}
-use Rattle.cursor.proofs.CursorLaws.{in-reach, reach-block, reach-moves, from-end, from-outside, from-bad, from-record, from-empty, step-outside, step-bad, step-past, step-stays, step-moves, start-refused, start-accepted, step-refused, step-ended, step-goes}
+use Rattle.cursor.proofs.CursorLaws.{in-reach, reach-block, reach-moves, from-end, from-outside, from-bad}
+use Rattle.cursor.proofs.CursorLaws.{from-record, from-empty, step-outside, step-bad, step-past, step-stays}
+use Rattle.cursor.proofs.CursorLaws.{step-moves, step-goes}
 
 -- ---- what holds of every way in which an answer can come about, holds of the answer
 
 module _ (t : List ℕ) (g : Shape) where
   -- the first record from a number on, reached after at least so many moves
-  module _ (back : Cursor) (least : ℕ) (Holds : Step → Type 0) (at-end : Holds (End atEnd)) (outside : Holds (Refused 8 back)) (bad : Holds (Refused 9 back))
-      (at-record : (b moves n : ℕ) → least ≤ moves → inReach g b moves ≡ true → countIn t g b ≡ Records (suc n) → Holds (Record (standing b 0 moves))) where
-    turn : (moves b : ℕ) → least ≤ moves → (inReach g b moves ≡ true → Holds (firstFrom t g back (moves + 1) (nextOf t g b))) → Holds (firstFrom t g back moves b)
+  module _ (back : Cursor) (least : ℕ) (Holds : Step → Type 0) (at-end : Holds (End atEnd))
+      (outside : Holds (Refused chainRule back)) (bad : Holds (Refused wrongCount back))
+      (at-record : (b moves n : ℕ) → least ≤ moves → inReach g b moves ≡ true → countIn t g b ≡ Records (suc n)
+      → Holds (Record (standing b 0 moves))) where
+    turn : (moves b : ℕ) → least ≤ moves →
+        (inReach g b moves ≡ true → Holds (firstFrom t g back (moves + 1) (nextOf t g b))) →
+        Holds (firstFrom t g back moves b)
     turn moves b l ih = go (eqb b 0) refl
       where
-        by-count : (b ≡ 0 → ⊥) → inReach g b moves ≡ true → (n : Count) → countIn t g b ≡ n → Holds (firstFrom t g back moves b)
+        by-count : (b ≡ 0 → ⊥) → inReach g b moves ≡ true → (n : Count) → countIn t g b ≡ n →
+            Holds (firstFrom t g back moves b)
         by-count ne e Bad k = rw (from-bad t g back moves b ne e k) bad
         by-count ne e (Records zero) k = rw (from-empty t g back moves b ne e 0 k refl) (ih e)
-        by-count ne e (Records (suc n)) k = rw (from-record t g back moves b ne e (suc n) k (λ z. omega arith)) (at-record b moves n l e k)
+        by-count ne e (Records (suc n)) k =
+            rw (from-record t g back moves b ne e (suc n) k (λ z. omega arith)) (at-record b moves n l e k)
 
         by-entry : (b ≡ 0 → ⊥) → (c : Bool) → inReach g b moves ≡ c → Holds (firstFrom t g back moves b)
         by-entry ne false e = rw (from-outside t g back moves b ne e) outside
@@ -49,19 +61,23 @@ module _ (t : List ℕ) (g : Shape) where
     -- so many blocks may still be entered
     within : (left moves b : ℕ) → g .blocks - moves ≡ left → least ≤ moves → Holds (firstFrom t g back moves b)
     within zero moves b e l = turn moves b l (λ m. absurd (omega (arith, reach-moves g b moves m)))
-    within (suc left) moves b e l = turn moves b l (λ m. within left (moves + 1) (nextOf t g b) (omega arith) (omega arith))
+    within (suc left) moves b e l =
+        turn moves b l (λ m. within left (moves + 1) (nextOf t g b) (omega arith) (omega arith))
 
     from-holds : (moves b : ℕ) → least ≤ moves → Holds (firstFrom t g back moves b)
     from-holds moves b l = within (g .blocks - moves) moves b refl l
 
   -- the record after that of a cursor which has not ended
-  module _ (c : Cursor) (Holds : Step → Type 0) (unfit : Holds (Refused 13 c)) (bad : Holds (Refused 9 c))
-      (stays : (n : ℕ) → inReach g (c .block) (c .moves) ≡ true → countIn t g (c .block) ≡ Records n → c .place + 1 < n → Holds (Record (standing (c .block) (c .place + 1) (c .moves))))
+  module _ (c : Cursor) (Holds : Step → Type 0) (unfit : Holds (Refused badArgument c))
+      (bad : Holds (Refused wrongCount c))
+      (stays : (n : ℕ) → inReach g (c .block) (c .moves) ≡ true → countIn t g (c .block) ≡ Records n → c .place + 1 < n
+      → Holds (Record (standing (c .block) (c .place + 1) (c .moves))))
       (moves : Holds (firstFrom t g c (c .moves + 1) (nextOf t g (c .block)))) where
     in-holds : Holds (stepIn t g c)
     in-holds = by-entry (inReach g (c .block) (c .moves)) refl
       where
-        by-place : inReach g (c .block) (c .moves) ≡ true → (n : ℕ) → countIn t g (c .block) ≡ Records n → Holds (stepIn t g c)
+        by-place : inReach g (c .block) (c .moves) ≡ true → (n : ℕ) → countIn t g (c .block) ≡ Records n →
+            Holds (stepIn t g c)
         by-place e n k =
             ⊎-elim
             (λ (l : c .place < n). ⊎-elim
@@ -71,7 +87,8 @@ module _ (t : List ℕ) (g : Shape) where
             (λ (l : n ≤ c .place). rw (step-past t g c e n k l) unfit)
             (lt-or-ge (c .place) n)
 
-        by-count : inReach g (c .block) (c .moves) ≡ true → (n : Count) → countIn t g (c .block) ≡ n → Holds (stepIn t g c)
+        by-count : inReach g (c .block) (c .moves) ≡ true → (n : Count) → countIn t g (c .block) ≡ n →
+            Holds (stepIn t g c)
         by-count e Bad k = rw (step-bad t g c e k) bad
         by-count e (Records n) k = by-place e n k
 
@@ -81,29 +98,26 @@ module _ (t : List ℕ) (g : Shape) where
 
 -- 1 to 7 come first
 module _ (t : List ℕ) (Holds : Step → Type 0) where
-  start-holds : ((n : ℕ) → 1 ≤ n → Holds (Refused n atEnd)) → Holds (firstFrom t (shapeOf (headerOf t)) atEnd 0 (headerOf t .first)) → Holds (startOf t)
-  start-holds refused from = go (eqb (headerOf t .refusal) 0) refl
-    where
-      go : (b : Bool) → eqb (headerOf t .refusal) 0 ≡ b → Holds (startOf t)
-      go true e = rw (start-accepted t (eqb-true (headerOf t .refusal) 0 e)) from
-      go false e = let ne = eqb-false (headerOf t .refusal) 0 e in rw (start-refused t ne) (refused (headerOf t .refusal) (omega arith))
+  start-holds : ((n : ℕ) → 1 ≤ n → Holds (Refused n atEnd)) →
+      Holds (firstFrom t (shapeOf (numbersOf t)) atEnd 0 (numbersOf t .first)) → Holds (startOf t)
+  unfolding startOf startIn
+  start-holds refused from = first-holds t (λ (n : ℕ). Refused n atEnd) _ Holds refused (λ a. from)
 
-  step-holds : (c : Cursor) → ((n : ℕ) → 1 ≤ n → Holds (Refused n c)) → Holds (End atEnd) → Holds (stepIn t (shapeOf (headerOf t)) c) → Holds (stepOf t c)
-  step-holds c refused at-end goes = go (eqb (headerOf t .refusal) 0) refl
+  step-holds : (c : Cursor) → ((n : ℕ) → 1 ≤ n → Holds (Refused n c)) → Holds (End atEnd) →
+      Holds (stepIn t (shapeOf (numbersOf t)) c) → Holds (stepOf t c)
+  unfolding stepOf
+  step-holds c refused at-end goes = first-holds t (λ (n : ℕ). Refused n c) _ Holds refused (λ a. by-end (c .ended))
     where
-      by-end : headerOf t .refusal ≡ 0 → (b : Bool) → c .ended ≡ b → Holds (stepOf t c)
-      by-end e true f = rw (step-ended t c e f) at-end
-      by-end e false f = rw (step-goes t c e f) goes
-
-      go : (b : Bool) → eqb (headerOf t .refusal) 0 ≡ b → Holds (stepOf t c)
-      go true e = by-end (eqb-true (headerOf t .refusal) 0 e) (c .ended) refl
-      go false e = let ne = eqb-false (headerOf t .refusal) 0 e in rw (step-refused t c ne) (refused (headerOf t .refusal) (omega arith))
+      by-end : (b : Bool) → Holds (cond b (End atEnd) (stepIn t (shapeOf (numbersOf t)) c))
+      by-end true = at-end
+      by-end false = goes
 
 -- ---- an answer is a record, the end, or a refusal
 
 module _ (t : List ℕ) (g : Shape) where
   -- a record in a block in reach
-  on-record : (b place moves : ℕ) → inReach g b moves ≡ true → (n : ℕ) → countIn t g b ≡ Records n → place < n → OnRecord t g (standing b place moves)
+  on-record : (b place moves : ℕ) → inReach g b moves ≡ true → (n : ℕ) → countIn t g b ≡ Records n → place < n →
+      OnRecord t g (standing b place moves)
   on-record b place moves e n k l =
       record {
         going = refl;
@@ -117,20 +131,22 @@ module _ (t : List ℕ) (g : Shape) where
 
   from-answers : (back : Cursor) (moves b : ℕ) → Answered t g back (firstFrom t g back moves b)
   from-answers back moves b =
-      from-holds t g back 0 (Answered t g back) over (refusing {n = 8} (omega arith)) (refusing {n = 9} (omega arith))
+      from-holds t g back 0 (Answered t g back) over (refusing {n = chainRule} (omega arith))
+      (refusing {n = wrongCount} (omega arith))
       (λ b m n l e k. found (on-record b 0 m e (suc n) k (omega arith)))
       moves b (omega arith)
 
-pub start-answers : (t : List ℕ) → Answered t (shapeOf (headerOf t)) atEnd (startOf t)
+pub start-answers : (t : List ℕ) → Answered t (shapeOf (numbersOf t)) atEnd (startOf t)
 start-answers t =
-    let g = shapeOf (headerOf t) in
-    start-holds t (Answered t g atEnd) (λ n l. refusing l) (from-answers t g atEnd 0 (headerOf t .first))
+    let g = shapeOf (numbersOf t) in
+    start-holds t (Answered t g atEnd) (λ n l. refusing l) (from-answers t g atEnd 0 (numbersOf t .first))
 
-pub step-answers : (t : List ℕ) (c : Cursor) → Answered t (shapeOf (headerOf t)) c (stepOf t c)
+pub step-answers : (t : List ℕ) (c : Cursor) → Answered t (shapeOf (numbersOf t)) c (stepOf t c)
 step-answers t c =
-    let g = shapeOf (headerOf t) in
+    let g = shapeOf (numbersOf t) in
     step-holds t (Answered t g c) c (λ n l. refusing l) over
-    (in-holds t g c (Answered t g c) (refusing {n = 13} (omega arith)) (refusing {n = 9} (omega arith))
+    (in-holds t g c (Answered t g c) (refusing {n = badArgument} (omega arith))
+    (refusing {n = wrongCount} (omega arith))
     (λ n e k m. found (on-record t g (c .block) (c .place + 1) (c .moves) e n k m))
     (from-answers t g c (c .moves + 1) (nextOf t g (c .block))))
 
@@ -151,11 +167,13 @@ record-is c d e = cc
 
 pub step-after : (t : List ℕ) (c d : Cursor) → stepOf t c ≡ Record d → After c d
 step-after t c =
-    let g = shapeOf (headerOf t) in
+    let g = shapeOf (numbersOf t) in
     step-holds t (Later c) c (λ n l. no-record-refused c n c) (no-record-at-end c atEnd)
-    (in-holds t g c (Later c) (no-record-refused c 13 c) (no-record-refused c 9 c)
-    (λ n e k m d f. rw (← (record-is (standing (c .block) (c .place + 1) (c .moves)) d f)) (next-place refl refl (add-one (c .place))))
-    (from-holds t g c (c .moves + 1) (Later c) (no-record-at-end c atEnd) (no-record-refused c 8 c) (no-record-refused c 9 c)
+    (in-holds t g c (Later c) (no-record-refused c badArgument c) (no-record-refused c wrongCount c)
+    (λ n e k m d f. rw (← (record-is (standing (c .block) (c .place + 1) (c .moves)) d f))
+    (next-place refl refl (add-one (c .place))))
+    (from-holds t g c (c .moves + 1) (Later c) (no-record-at-end c atEnd) (no-record-refused c chainRule c)
+    (no-record-refused c wrongCount c)
     (λ b m n l e k d f. rw (← (record-is (standing b 0 m) d f)) (more-moves (omega arith)))
     (c .moves + 1) (nextOf t g (c .block)) (omega arith)))
 
@@ -163,7 +181,7 @@ step-after t c =
 
 -- an answer is no 13
 abbrev Fits : Step → Type 0
-Fits s = (d : Cursor) → s ≡ Refused 13 d → ⊥
+Fits s = (d : Cursor) → s ≡ Refused badArgument d → ⊥
 
 end-fits : (k : Cursor) → Fits (End k)
 end-fits k d e = let z : _≡_ {A = ℕ} 0 1 = cc in omega arith
@@ -171,18 +189,21 @@ end-fits k d e = let z : _≡_ {A = ℕ} 0 1 = cc in omega arith
 record-fits : (k : Cursor) → Fits (Record k)
 record-fits k d e = let z : _≡_ {A = ℕ} 0 1 = cc in omega arith
 
-refused-fits : (n : ℕ) (k : Cursor) → (n ≡ 13 → ⊥) → Fits (Refused n k)
+refused-fits : (n : ℕ) (k : Cursor) → (n ≡ badArgument → ⊥) → Fits (Refused n k)
 refused-fits n k ne d e = ne cc
 
-pub step-fits : (t : List ℕ) → headerOf t .refusal ≡ 0 → (c : Cursor) → OnRecord t (shapeOf (headerOf t)) c → (d : Cursor) → stepOf t c ≡ Refused 13 d → ⊥
+pub step-fits : (t : List ℕ) → headerRefusal t ≡ 0 → (c : Cursor) → OnRecord t (shapeOf (numbersOf t)) c →
+    (d : Cursor) → stepOf t c ≡ Refused badArgument d → ⊥
 step-fits t z c r =
-    let g = shapeOf (headerOf t) in
+    let g = shapeOf (numbersOf t) in
     let e = in-reach g (c .block) (c .moves) (r .low) (r .high) (r .few-moves) in
     rw (step-goes t c z (r .going))
     (⊎-elim
-    (λ (m : c .place + 1 < r .count). rw (step-stays t g c e (r .count) (r .counted) m) (record-fits (standing (c .block) (c .place + 1) (c .moves))))
+    (λ (m : c .place + 1 < r .count). rw (step-stays t g c e (r .count) (r .counted) m)
+    (record-fits (standing (c .block) (c .place + 1) (c .moves))))
     (λ (m : r .count ≤ c .place + 1). rw (step-moves t g c e (r .count) (r .counted) (r .there) m)
-    (from-holds t g c 0 Fits (end-fits atEnd) (refused-fits 8 c (λ y. omega arith)) (refused-fits 9 c (λ y. omega arith))
+    (from-holds t g c 0 Fits (end-fits atEnd) (refused-fits chainRule c (λ y. omega arith))
+    (refused-fits wrongCount c (λ y. omega arith))
     (λ b m n l e k. record-fits (standing b 0 m))
     (c .moves + 1) (nextOf t g (c .block)) (omega arith)))
     (lt-or-ge (c .place + 1) (r .count)))

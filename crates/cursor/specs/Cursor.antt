@@ -1,10 +1,12 @@
--- Records, one after another: what starting and stepping a cursor answer, for any bytes and any cursor. Definitions only.
+-- Records, one after another: what starting and stepping a cursor answer, for any bytes and any cursor. Definitions
+-- only.
 use Prim.Native.Nat.{ℕ, zero, suc, _-_}
 use mathlib.Core.Bool.{Bool, true, false, cond, _&&_}
 use mathlib.Core.List.{List}
 use lib.Dec.{eqb, ltb}
 use Rattle.header.specs.Refusals.{chainRule, wrongCount, badArgument}
-use Rattle.header.specs.Header.{headerOf}
+use Rattle.header.specs.Numbers.{numbersOf}
+use Rattle.header.specs.Answers.{headerFirst}
 use Rattle.header.specs.declared.Header.{Header}
 use Rattle.blocks.specs.Shape.{shapeOf, hasBlock}
 use Rattle.blocks.specs.Counts.{countIn}
@@ -32,10 +34,10 @@ pub record Numbers : Type 0 where
   pub found : ℕ
   pub cursor : Cursor
 
-unfoldable pub numbersOf : Step → Numbers
-numbersOf (Record c) = record { refusal = 0; found = 1; cursor = c }
-numbersOf (End c) = record { refusal = 0; found = 0; cursor = c }
-numbersOf (Refused n c) = record { refusal = n; found = 0; cursor = c }
+unfoldable pub answerNumbers : Step → Numbers
+answerNumbers (Record c) = record { refusal = 0; found = 1; cursor = c }
+answerNumbers (End c) = record { refusal = 0; found = 0; cursor = c }
+answerNumbers (Refused n c) = record { refusal = n; found = 0; cursor = c }
 
 -- ---- the first record from a block on
 
@@ -43,15 +45,15 @@ numbersOf (Refused n c) = record { refusal = n; found = 0; cursor = c }
 unfoldable pub inReach : Shape → ℕ → ℕ → Bool
 inReach g b moves = hasBlock g b && ltb moves (g .blocks)
 
--- block b by its count, reached after so many moves: its first record; 9 for a bad count; one without records is passed over, and
--- `rest` is the answer. A refusal hands `back` back
+-- block b by its count, reached after so many moves: its first record; 9 for a bad count; one without records is
+-- passed over, and `rest` is the answer. A refusal hands `back` back
 unfoldable pub firstIn : Cursor → ℕ → ℕ → Count → Step → Step
 firstIn back b moves (Records zero) rest = rest
 firstIn back b moves (Records (suc n)) rest = Record (standing b 0 moves)
 firstIn back b moves Bad rest = Refused wrongCount back
 
--- from number b on, reached after so many moves: 0 is the end; 8 for a number out of range and for a move beyond blocks - 1; to the
--- next block it is one move more. `left` is how many blocks may still be entered
+-- from number b on, reached after so many moves: 0 is the end; 8 for a number out of range and for a move beyond
+-- blocks - 1; to the next block it is one move more. `left` is how many blocks may still be entered
 unfoldable pub firstWithin : List ℕ → Shape → Cursor → ℕ → ℕ → ℕ → Step
 firstWithin t g back zero moves b = cond (eqb b 0) (End atEnd) (Refused chainRule back)
 firstWithin t g back (suc left) moves b =
@@ -70,12 +72,12 @@ unfoldable pub startIn : List ℕ → Header → Step
 startIn t h = firstFrom t (shapeOf h) atEnd 0 (h .first)
 
 unfoldable pub startOf : List ℕ → Step
-startOf t = cond (eqb (headerOf t .refusal) 0) (startIn t (headerOf t)) (Refused (headerOf t .refusal) atEnd)
+startOf t = headerFirst t (λ (number : ℕ). Refused number atEnd) (startIn t (numbersOf t))
 
--- ---- stepping: 1 to 7, then 13, 9, 13 for the cursor itself, then the next record. A refusal hands the same cursor back
+-- ---- stepping: 1 to 7, then 13, 9, 13 for the cursor itself, then the next record. Refused, it comes back the same
 
--- the record after the cursor's, by its block's count: in its block, or from the next number on; 9 for a bad count, 13 for no such
--- place
+-- the record after the cursor's, by its block's count: in its block, or from the next number on; 9 for a bad count,
+-- 13 for no such place
 unfoldable pub stepWith : List ℕ → Shape → Cursor → Count → Step
 stepWith t g c Bad = Refused wrongCount c
 stepWith t g c (Records n) =
@@ -92,14 +94,12 @@ stepIn t g c = cond (inReach g (c .block) (c .moves)) (stepWith t g c (countIn t
 -- a cursor that has ended stays so, and its numbers become 0
 unfoldable pub stepOf : List ℕ → Cursor → Step
 stepOf t c =
-    cond (eqb (headerOf t .refusal) 0)
-    (cond (c .ended) (End atEnd) (stepIn t (shapeOf (headerOf t)) c))
-    (Refused (headerOf t .refusal) c)
+    headerFirst t (λ (number : ℕ). Refused number c) (cond (c .ended) (End atEnd) (stepIn t (shapeOf (numbersOf t)) c))
 
 -- ---- both in document 01's numbers
 
 unfoldable pub startNumbers : List ℕ → Numbers
-startNumbers t = numbersOf (startOf t)
+startNumbers t = answerNumbers (startOf t)
 
 unfoldable pub stepNumbers : List ℕ → Cursor → Numbers
-stepNumbers t c = numbersOf (stepOf t c)
+stepNumbers t c = answerNumbers (stepOf t c)

@@ -18,7 +18,8 @@ use Rattle.cursor.specs.declared.Step.the-variants.{Record, End, Refused
 
 -- ---- one answer, of any bytes
 
--- a cursor on a record: its block is in the file and counts more records than its place, and its moves are at most blocks - 1
+-- a cursor on a record: its block is in the file and counts more records than its place, and its moves are at most
+-- blocks - 1
 pub record OnRecord (t : List ℕ) (g : Shape) (c : Cursor) : Type 0 where
   pub going : c .ended ≡ false
   pub low : 1 ≤ c .block
@@ -58,10 +59,11 @@ pub data Gives (t : List ℕ) : Step → List Position → Type 0 where
   none : Gives t (End atEnd) []
   one : {c : Cursor} {ps : List Position} → Gives t (stepOf t c) ps → Gives t (Record c) (positionOf c ∷ ps)
 
--- every record comes once, in chain order: from the start on stepping gives the records of the table and no other list, a record that
--- a used block counts is among them once, and none is twice
+-- every record comes once, in chain order: from the start on stepping gives the records of the table and no other
+-- list, a record that a used block counts is among them once, and none is twice
 pub record EveryRecord (t : List ℕ) (h : Header) : Type 0 where
   pub gives : Gives t (startOf t) (recordsOf t h)
   pub exactly : (ps : List Position) → Gives t (startOf t) ps → ps ≡ recordsOf t h
-  pub once : (p : Position) → times (p .block) (usedOf t h) ≡ 1 → p .place < held (countIn t (shapeOf h) (p .block)) → comes p (recordsOf t h) ≡ 1
+  pub once : (p : Position) → times (p .block) (usedOf t h) ≡ 1 → p .place < held (countIn t (shapeOf h) (p .block)) →
+      comes p (recordsOf t h) ≡ 1
   pub no-more : (p : Position) → comes p (recordsOf t h) ≤ 1

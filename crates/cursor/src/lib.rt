@@ -3,7 +3,7 @@ mod moves;
 
 ghost use mathlib.Core.Path.{_≡_};
 ghost use Rattle.blocks.specs.Shape.{Sound};
-ghost use Rattle.cursor.specs.Cursor.{atEnd, numbersOf, startNumbers, startOf, stepIn, stepNumbers, stepOf};
+ghost use Rattle.cursor.specs.Cursor.{answerNumbers, atEnd, startNumbers, startOf, stepIn, stepNumbers, stepOf};
 use blocks::Count;
 use blocks::Shape;
 use header::refusal;
@@ -31,12 +31,14 @@ impl Cursor {
     // The first record of any bytes, or the end; or the first of 1 to 7 that applies, then 8 or 9, whichever
     // is met first along the chain.
     pub fn start(table: &[u8]) -> Step
-        ensures { λ r. ⌜ (r ≡ startOf (now (table .entry))) × (numbersOf r ≡ startNumbers (now (table .entry))) ⌝ }
+        ensures { λ r. ⌜ r ≡ startOf (now (table .entry)) ⌝ }
+        ensures { λ r. ⌜ answerNumbers r ≡ startNumbers (now (table .entry)) ⌝ }
     {
-        let h = header::read(table);
-        if h.refusal != refusal::ACCEPTED {
-            return Step::Refused(h.refusal, Cursor::at_end());
+        let answer = header::read(table);
+        if answer.refusal != refusal::ACCEPTED {
+            return Step::Refused(answer.refusal, Cursor::at_end());
         }
+        let h = answer.header;
         let shape = blocks::shape_of(h);
         moves::first_from(table, shape, Cursor::at_end(), 0, h.first as usize)
     }
@@ -44,15 +46,17 @@ impl Cursor {
     // The record after that of a cursor, whoever made it, or the end; or the first of 1 to 7, 13, 9 and 13
     // that applies, then 8 or 9, whichever is met first along the chain. An ended cursor steps to the end.
     pub fn step(self, table: &[u8]) -> Step
-        ensures { λ r. ⌜ (r ≡ stepOf (now (table .entry)) self) × (numbersOf r ≡ stepNumbers (now (table .entry)) self) ⌝ }
+        ensures { λ r. ⌜ r ≡ stepOf (now (table .entry)) self ⌝ }
+        ensures { λ r. ⌜ answerNumbers r ≡ stepNumbers (now (table .entry)) self ⌝ }
     {
-        let h = header::read(table);
-        if h.refusal != refusal::ACCEPTED {
-            return Step::Refused(h.refusal, self);
+        let answer = header::read(table);
+        if answer.refusal != refusal::ACCEPTED {
+            return Step::Refused(answer.refusal, self);
         }
         if self.ended {
             return Step::End(Cursor::at_end());
         }
+        let h = answer.header;
         next_record(table, blocks::shape_of(h), self)
     }
 

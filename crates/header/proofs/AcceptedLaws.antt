@@ -1,49 +1,53 @@
--- What reading a header answers, for the crates above: refused with a number only, or accepted with its bounds. Assumes nothing.
+-- What reading a header answers, for the crates above: refused with a number only, or accepted with its bounds.
+-- Assumes nothing.
 use Prim.Native.Nat.{ℕ, zero, suc, _+_, _-_, _*_, _≤_, _<_}
-use mathlib.Core.Path.{_≡_, refl, sym, _∙_}
+use mathlib.Core.Path.{_≡_, refl, sym, _∙_, ap}
 use mathlib.Core.Bool.{Bool, true, false, cond, _&&_}
 use mathlib.Core.List.{List}
 use native.Mathlib.Nat.{not-suc-le-zero}
 use native.Mathlib.Omega.{arith}
 use lib.Dec.{leb}
+use lib.ListN.{length}
 use borrow.Author.Tests.{le-leb, lt-leb, leb-true, leb-false}
 use Rattle.words.specs.Numbers.{byte}
 use Rattle.header.specs.Stored.{storedOf, areaAt, namesAt}
 use Rattle.header.specs.Fields.{widthAt, kindAt, widthSum}
-use Rattle.header.specs.Header.{headerAnswer, refusedWith, acceptedWith, acceptedOf, answerWith, headerOf, fieldWith, fieldOf}
+use Rattle.header.specs.Header.{headerRefusal}
+use Rattle.header.specs.Numbers.{numbersWith, numbersIn, numbersOf, fieldWith, fieldOf}
+use Rattle.header.specs.Answers.{unlessRefused, headerFirst, refusedWith, acceptedWith, headerAnswer}
 use Rattle.header.specs.Rules.{Names, some, HeaderRules, Accepted, FieldBounds}
 use Rattle.header.specs.declared.Header.{Header}
+use Rattle.header.specs.declared.HeaderAnswer.{HeaderAnswer}
 use Rattle.header.specs.declared.kind.FieldKind.{FieldKind}
 use Rattle.header.specs.declared.kind.StoredKind.{StoredKind}
 use Rattle.header.specs.declared.kind.StoredKind.the-variants.{Kind, Unknown}
 use Rattle.header.specs.declared.field.Field.the-variants.{Is, Missing}
 use Rattle.header.proofs.KindLaws.{kind-width, known-width}
 use Rattle.header.proofs.FieldLaws.{offset-at, offsets-length}
-use Rattle.header.proofs.RuleLaws.{answer-gives, answer-takes}
+use Rattle.header.proofs.VerdictLaws.{unless-kept, unless-refused}
+use Rattle.header.proofs.RuleLaws.{verdict-gives, verdict-takes}
 
--- ---- the number
-
-refusal-with : (n : ℕ) (t : List ℕ) → answerWith n t .refusal ≡ n
-unfolding answerWith acceptedOf acceptedWith refusedWith
-refusal-with zero t = refl
-refusal-with (suc n) t = refl
-
--- the header's number is the first broken rule's
-pub refusal-is : (t : List ℕ) → headerOf t .refusal ≡ headerAnswer t
-unfolding headerOf
-refusal-is t = refusal-with (headerAnswer t) t
+-- ---- the verdict
 
 -- demand 2 for the header: accepted exactly when it meets rules 1 to 7
-pub accepted-gives : (t : List ℕ) → headerOf t .refusal ≡ 0 → HeaderRules t
-accepted-gives t e = answer-gives t (sym (refusal-is t) ∙ e)
+pub accepted-gives : (t : List ℕ) → headerRefusal t ≡ 0 → HeaderRules t (length t)
+accepted-gives t e = verdict-gives t (length t) e
 
-pub accepted-takes : (t : List ℕ) → HeaderRules t → headerOf t .refusal ≡ 0
-accepted-takes t r = refusal-is t ∙ answer-takes t r
+pub accepted-takes : (t : List ℕ) → HeaderRules t (length t) → headerRefusal t ≡ 0
+accepted-takes t r = verdict-takes t (length t) r
 
--- a refusal carries its number only
-pub refused-only : (t : List ℕ) (n : ℕ) → headerOf t .refusal ≡ suc n → headerOf t ≡ refusedWith (suc n)
-unfolding headerOf answerWith
-refused-only t n e = let f : headerAnswer t ≡ suc n = sym (refusal-is t) ∙ e in rw f
+-- the answer's number is the verdict's, and a refusal carries that number only
+pub refusal-is : (t : List ℕ) → headerAnswer t .refusal ≡ headerRefusal t
+unfolding headerAnswer headerFirst unlessRefused acceptedWith refusedWith
+refusal-is t = go (headerRefusal t)
+  where
+    go : (n : ℕ) → unlessRefused n refusedWith (acceptedWith (numbersOf t)) .refusal ≡ n
+    go zero = refl
+    go (suc n) = refl
+
+pub refused-only : (t : List ℕ) → (headerRefusal t ≡ 0 → ⊥) → headerAnswer t ≡ refusedWith (headerRefusal t)
+unfolding headerAnswer headerFirst
+refused-only t h = unless-refused (headerRefusal t) refusedWith (acceptedWith (numbersOf t)) h
 
 -- ---- widths
 
@@ -54,7 +58,8 @@ sum-mono t area zero n l = omega arith
 sum-mono t area (suc k) zero l = absurd (not-suc-le-zero l)
 sum-mono t area (suc k) (suc n) l = go (leb (suc k) n) refl (sum-mono t area (suc k) n)
   where
-    go : (b : Bool) → leb (suc k) n ≡ b → (suc k ≤ n → widthSum t area (suc k) ≤ widthSum t area n) → widthSum t area (suc k) ≤ widthSum t area (suc n)
+    go : (b : Bool) → leb (suc k) n ≡ b → (suc k ≤ n → widthSum t area (suc k) ≤ widthSum t area n) →
+        widthSum t area (suc k) ≤ widthSum t area (suc n)
     go true e ih = omega (arith, ih (leb-true (suc k) n e))
     go false e ih = let f : k ≡ n = omega (arith, leb-false (suc k) n e) in rw f (omega arith)
 
@@ -70,23 +75,22 @@ names-inside t end (suc n) at l (some name inside rest) = omega arith
 
 -- ---- an accepted header
 
-module _ (t : List ℕ) (e : headerOf t .refusal ≡ 0) where
-  numbers : headerOf t ≡ acceptedOf t (storedOf t)
-  unfolding headerOf answerWith
-  numbers = let f : headerAnswer t ≡ 0 = sym (refusal-is t) ∙ e in rw f
-
-  stored-accepted : Accepted t (acceptedOf t (storedOf t))
-  unfolding acceptedOf acceptedWith
-  stored-accepted =
+module _ (t : List ℕ) (e : headerRefusal t ≡ 0) where
+  pub accepted : Accepted t (numbersOf t)
+  unfolding numbersOf numbersIn numbersWith
+  accepted =
       let s = storedOf t in
       let area = areaAt (s .version) in
       let r = accepted-gives t e in
       let l = r .limits in
       let f = r .fields in
-      let known : (i : ℕ) → i < s .fields → 1 ≤ widthAt t area i = λ i k. known-width (byte t (area + 2 * i)) (widthAt t area i) (f .pairs i k) in
-      let most : widthSum t area (s .«key_fields») ≤ widthSum t area (s .fields) = sum-mono t area (s .«key_fields») (s .fields) (l .keys-most) in
+      let known : (i : ℕ) → i < s .fields → 1 ≤ widthAt t area i =
+      λ i k. known-width (byte t (area + 2 * i)) (widthAt t area i) (f .pairs i k) in
+      let most : widthSum t area (s .«key_fields») ≤ widthSum t area (s .fields) =
+      sum-mono t area (s .«key_fields») (s .fields) (l .keys-most) in
+      let inside = names-inside t (s .«header_size») (s .fields) (namesAt s) (l .fields-least) (f .names) in
       record {
-        same = sym numbers;
+        same = refl;
         whole = r .whole;
         header-least = l .header-least;
         block-least = omega (arith, l .units-least);
@@ -98,7 +102,7 @@ module _ (t : List ℕ) (e : headerOf t .refusal ≡ 0) where
         fields-least = l .fields-least;
         fields-most = l .fields-most;
         keys-most = l .keys-most;
-        area-inside = omega (arith, names-inside t (s .«header_size») (s .fields) (namesAt s) (l .fields-least) (f .names));
+        area-inside = omega arith;
         offsets-length = offsets-length t area (s .fields);
         offset = λ i k. offset-at t area (s .fields) i (l .fields-most) k;
         widths = f .widths;
@@ -108,8 +112,59 @@ module _ (t : List ℕ) (e : headerOf t .refusal ≡ 0) where
         pairs = f .pairs;
       }
 
-  pub accepted : Accepted t (headerOf t)
-  accepted = rw numbers stored-accepted
+-- ---- a header that was read: what its answer r says, without a word on the rules
+
+module _ (t : List ℕ) (r : HeaderAnswer) (read : r ≡ headerAnswer t) where
+  kept : r .refusal ≡ 0 → headerRefusal t ≡ 0
+  kept e = sym (refusal-is t) ∙ ap (λ (a : HeaderAnswer). a .refusal) (sym read) ∙ e
+
+  -- where its number is 0, its numbers are the header's, with their bounds
+  pub read-numbers : r .refusal ≡ 0 → r .header ≡ numbersOf t
+  unfolding headerAnswer headerFirst acceptedWith
+  read-numbers e =
+      let n = unless-kept (headerRefusal t) refusedWith (acceptedWith (numbersOf t)) (kept e) in
+      ap (λ (a : HeaderAnswer). a .header) (read ∙ n)
+
+  -- it is all of the answer, and so is a refusal's number
+  pub read-kept : r .refusal ≡ 0 → r ≡ acceptedWith (numbersOf t)
+  unfolding headerAnswer headerFirst
+  read-kept e = read ∙ unless-kept (headerRefusal t) refusedWith (acceptedWith (numbersOf t)) (kept e)
+
+  pub read-refused : (r .refusal ≡ 0 → ⊥) → r ≡ refusedWith (r .refusal)
+  unfolding headerAnswer headerFirst
+  read-refused h =
+      let n : r .refusal ≡ headerRefusal t = ap (λ (a : HeaderAnswer). a .refusal) read ∙ refusal-is t in
+      read ∙ unless-refused (headerRefusal t) refusedWith (acceptedWith (numbersOf t)) (λ z. h (n ∙ z))
+      ∙ ap refusedWith (sym n)
+
+  pub numbers-accepted : r .refusal ≡ 0 → Accepted t (numbersOf t)
+  numbers-accepted e = accepted t (kept e)
+
+  pub read-accepted : r .refusal ≡ 0 → Accepted t (r .header)
+  read-accepted e = rw (read-numbers e) (numbers-accepted e)
+
+  -- an answer that has the rules first is refused with its number, or what comes after them
+  module _ {A : Type 0} (refused : ℕ → A) (others : A) where
+    pub first-kept : r .refusal ≡ 0 → headerFirst t refused others ≡ others
+    unfolding headerFirst
+    first-kept e = unless-kept (headerRefusal t) refused others (kept e)
+
+    pub first-refused : (r .refusal ≡ 0 → ⊥) → headerFirst t refused others ≡ refused (r .refusal)
+    unfolding headerFirst
+    first-refused h =
+        let n : r .refusal ≡ headerRefusal t = ap (λ (a : HeaderAnswer). a .refusal) read ∙ refusal-is t in
+        unless-refused (headerRefusal t) refused others (λ z. h (n ∙ z)) ∙ ap refused (sym n)
+
+-- what a refusal has, and what comes after the rules where they are kept, every answer has that has the rules first
+pub first-holds : {A : Type 0} (t : List ℕ) (refused : ℕ → A) (others : A) (Holds : A → Type 0) →
+    ((n : ℕ) → 1 ≤ n → Holds (refused n)) → (Accepted t (numbersOf t) → Holds others)
+    → Holds (headerFirst t refused others)
+unfolding headerFirst unlessRefused
+first-holds t refused others Holds refusals kept = go (headerRefusal t) refl
+  where
+    go : (n : ℕ) → headerRefusal t ≡ n → Holds (unlessRefused n refused others)
+    go zero e = kept (accepted t e)
+    go (suc n) e = refusals (suc n) (omega arith)
 
 -- ---- a field
 
@@ -122,38 +177,47 @@ module _ (t : List ℕ) (h : Header) (f : ℕ) where
   unfolding fieldOf
   field-high l = go (leb 1 f)
     where
-      go : (b : Bool) → cond (b && leb f (h .fields)) (fieldWith (kindAt t (h .area) (f - 1)) (widthAt t (h .area) (f - 1)) (widthSum t (h .area) (f - 1))) Missing ≡ Missing
+      go : (b : Bool) → cond (b && leb f (h .fields))
+          (fieldWith (kindAt t (h .area) (f - 1)) (widthAt t (h .area) (f - 1)) (widthSum t (h .area) (f - 1)))
+          Missing ≡ Missing
       go true = rw (lt-leb f (h .fields) l)
       go false = refl
 
-  pub field-here : 1 ≤ f → f ≤ h .fields → fieldOf t h f ≡ fieldWith (kindAt t (h .area) (f - 1)) (widthAt t (h .area) (f - 1)) (widthSum t (h .area) (f - 1))
+  pub field-here : 1 ≤ f → f ≤ h .fields
+      → fieldOf t h f ≡ fieldWith (kindAt t (h .area) (f - 1)) (widthAt t (h .area) (f - 1))
+      (widthSum t (h .area) (f - 1))
   unfolding fieldOf
   field-here l m = rw (le-leb 1 f l, le-leb f (h .fields) m)
 
 -- which of its fields a field is
-field-parts : (k : StoredKind) (w o : ℕ) (kind : FieldKind) (width offset : ℕ) → fieldWith k w o ≡ Is kind width offset → (k ≡ Kind kind) × (w ≡ width) × (o ≡ offset)
+field-parts : (k : StoredKind) (w o : ℕ) (kind : FieldKind) (width offset : ℕ) →
+    fieldWith k w o ≡ Is kind width offset → (k ≡ Kind kind) × (w ≡ width) × (o ≡ offset)
 unfolding fieldWith
 field-parts (Kind k) w o kind width offset e = (cc, cc, cc)
 field-parts Unknown w o kind width offset e = let z : _≡_ {A = ℕ} 0 1 = cc in absurd (omega arith)
 
 module _ (t : List ℕ) (h : Header) (a : Accepted t h) (f : ℕ) where
-  pub field-bounds : (kind : FieldKind) (width offset : ℕ) → fieldOf t h f ≡ Is kind width offset → FieldBounds t h f kind width offset
+  pub field-bounds : (kind : FieldKind) (width offset : ℕ) → fieldOf t h f ≡ Is kind width offset →
+      FieldBounds t h f kind width offset
   unfolding widthSum
   field-bounds kind width offset e = go (leb 1 f) refl (leb f (h .fields)) refl
     where
       go : (p : Bool) → leb 1 f ≡ p → (q : Bool) → leb f (h .fields) ≡ q → FieldBounds t h f kind width offset
       go false u q v = let z : _≡_ {A = ℕ} 0 1 = cc (field-low t h f (leb-false 1 f u)) in absurd (omega arith)
-      go true u false v = let z : _≡_ {A = ℕ} 0 1 = cc (field-high t h f (leb-false f (h .fields) v)) in absurd (omega arith)
+      go true u false v =
+          let z : _≡_ {A = ℕ} 0 1 = cc (field-high t h f (leb-false f (h .fields) v)) in absurd (omega arith)
       go true u true v =
           let low = leb-true 1 f u in
           let high = leb-true f (h .fields) v in
-          let p = field-parts (kindAt t (h .area) (f - 1)) (widthAt t (h .area) (f - 1)) (widthSum t (h .area) (f - 1)) kind width offset (sym (field-here t h f low high) ∙ e) in
+          let p = field-parts (kindAt t (h .area) (f - 1)) (widthAt t (h .area) (f - 1)) (widthSum t (h .area) (f - 1))
+          kind width offset (sym (field-here t h f low high) ∙ e) in
           record {
             least = low;
             most = high;
             wide = sym (p .1);
             stored = rw (p .1) at (p .0);
-            permitted = rw (p .1) at (kind-width (byte t (h .area + 2 * (f - 1))) (widthAt t (h .area) (f - 1)) kind (p .0));
+            permitted =
+                rw (p .1) at (kind-width (byte t (h .area + 2 * (f - 1))) (widthAt t (h .area) (f - 1)) kind (p .0));
             starts = sym (p .2);
             inside = omega (arith, p .1, p .2, sum-mono t (h .area) (suc (f - 1)) (h .fields) (omega arith), a .widths);
           }

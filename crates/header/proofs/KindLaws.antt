@@ -1,10 +1,9 @@
 -- The table of field kinds, looked up. Assumes nothing.
 use Prim.Native.Nat.{ℕ, _≤_, _<_}
-use mathlib.Core.Path.{_≡_, refl, sym}
+use mathlib.Core.Path.{_≡_, refl}
 use mathlib.Core.Bool.{Bool, true, false, cond, _&&_}
 use mathlib.Core.List.{List, [], _∷_}
-use mathlib.Core.Logic.{⊎-elim}
-use native.Mathlib.Nat.{eq-or-lt-of-le, le-antisymm}
+use native.Mathlib.Nat.{le-antisymm}
 use native.Mathlib.Omega.{arith}
 use lib.Dec.{eqb, leb}
 use borrow.Author.Tests.{ne-eqb, le-leb, lt-leb, leb-true}
@@ -16,7 +15,8 @@ use Rattle.header.specs.declared.kind.StoredKind.the-variants.{Kind, Unk
 
 -- ---- a width within its limits, or not
 
-pub permit-within : (kind : FieldKind) (width least most : ℕ) → least ≤ width → width ≤ most → permit kind width least most ≡ Kind kind
+pub permit-within : (kind : FieldKind) (width least most : ℕ) → least ≤ width → width ≤ most →
+    permit kind width least most ≡ Kind kind
 unfolding permit
 permit-within kind width least most l m = rw (le-leb least width l, le-leb width most m)
 
@@ -32,47 +32,38 @@ permit-wide kind width least most m = go (leb least width)
     go true = rw (lt-leb width most m)
     go false = refl
 
--- ---- a code's row
+-- ---- a code that no row has
 
--- the codes from 0D to 10 are blobs of width 10 to 250
-pub blob-codes : (code width : ℕ) → 0x0D ≤ code → code ≤ 0x10 → kindOf code width ≡ permit Blob width 10 250
-unfolding kindOf kindIn kinds
-blob-codes code width low high = ⊎-elim (λ e. rw (← e)) more (eq-or-lt-of-le low)
-  where
-    last : 0x0F < code → kindOf code width ≡ permit Blob width 10 250
-    last l = let e : code ≡ 0x10 = omega arith in rw e
-
-    third : 0x0E < code → kindOf code width ≡ permit Blob width 10 250
-    third l = ⊎-elim (λ e. rw (← e)) last (eq-or-lt-of-le l)
-
-    more : 0x0D < code → kindOf code width ≡ permit Blob width 10 250
-    more l = ⊎-elim (λ e. rw (← e)) third (eq-or-lt-of-le l)
-
--- a number that is at least k and not k is past k
-pub past : (n k : ℕ) → k ≤ n → (n ≡ k → ⊥) → k < n
-past n k l other = ⊎-elim (λ e. absurd (other (sym e))) (λ m. m) (eq-or-lt-of-le l)
-
--- 05 and 06 are numbers of width 8
-pub number-codes : (code width : ℕ) → 0x05 ≤ code → code ≤ 0x06 → kindOf code width ≡ permit Number width 8 8
-unfolding kindOf kindIn kinds
-number-codes code width low high = ⊎-elim (λ e. rw (← e)) (λ l. let e : code ≡ 0x06 = omega arith in rw e) (eq-or-lt-of-le low)
-
--- a code that no row has
 pub unknown-code : (code width : ℕ) →
-    (code ≡ 0x01 → ⊥) → (code ≡ 0x02 → ⊥) → (code ≡ 0x03 → ⊥) → (code ≡ 0x04 → ⊥) → (0x05 ≤ code → code ≤ 0x06 → ⊥) → (code ≡ 0x09 → ⊥) → (code ≡ 0x0C → ⊥) → (0x0D ≤ code → code ≤ 0x10 → ⊥) → kindOf code width ≡ Unknown
+    (code ≡ 0x01 → ⊥) → (code ≡ 0x02 → ⊥) → (code ≡ 0x03 → ⊥) → (code ≡ 0x04 → ⊥) → (code ≡ 0x05 → ⊥) →
+    (code ≡ 0x06 → ⊥) → (code ≡ 0x09 → ⊥) → (code ≡ 0x0C → ⊥) → (code ≡ 0x0D → ⊥) → (code ≡ 0x0E → ⊥) →
+    (code ≡ 0x0F → ⊥) → (code ≡ 0x10 → ⊥) → kindOf code width ≡ Unknown
 unfolding kindOf kindIn kinds
-unknown-code code width n1 n2 n3 n4 numbers n9 nC blobs =
-    let nN : (k : ℕ) → 0x05 ≤ k → k ≤ 0x06 → eqb code k ≡ false = λ k l h. ne-eqb code k (λ e. numbers (omega arith) (omega arith)) in
-    let nB : (k : ℕ) → 0x0D ≤ k → k ≤ 0x10 → eqb code k ≡ false = λ k l h. ne-eqb code k (λ e. blobs (omega arith) (omega arith)) in
-    simp (ne-eqb code 0x01 n1, ne-eqb code 0x02 n2, ne-eqb code 0x03 n3, ne-eqb code 0x04 n4, nN 0x05 (omega arith) (omega arith), nN 0x06 (omega arith) (omega arith), ne-eqb code 0x09 n9, ne-eqb code 0x0C nC, nB 0x0D (omega arith) (omega arith), nB 0x0E (omega arith) (omega arith), nB 0x0F (omega arith) (omega arith), nB 0x10 (omega arith) (omega arith))
+unknown-code code width text date short long currency number logical memo binary formatted ole graphic =
+    simp (
+      ne-eqb code 0x01 text,
+      ne-eqb code 0x02 date,
+      ne-eqb code 0x03 short,
+      ne-eqb code 0x04 long,
+      ne-eqb code 0x05 currency,
+      ne-eqb code 0x06 number,
+      ne-eqb code 0x09 logical,
+      ne-eqb code 0x0C memo,
+      ne-eqb code 0x0D binary,
+      ne-eqb code 0x0E formatted,
+      ne-eqb code 0x0F ole,
+      ne-eqb code 0x10 graphic,
+    )
 
 -- ---- what a kind says of the width
 
-permit-gives : (kind found : FieldKind) (width least most : ℕ) → permit kind width least most ≡ Kind found → (kind ≡ found) × (least ≤ width) × (width ≤ most)
+permit-gives : (kind found : FieldKind) (width least most : ℕ) → permit kind width least most ≡ Kind found →
+    (kind ≡ found) × (least ≤ width) × (width ≤ most)
 unfolding permit
 permit-gives kind found width least most e = go (leb least width) refl (leb width most) refl e
   where
-    go : (p : Bool) → leb least width ≡ p → (q : Bool) → leb width most ≡ q → cond (p && q) (Kind kind) Unknown ≡ Kind found → (kind ≡ found) × (least ≤ width) × (width ≤ most)
+    go : (p : Bool) → leb least width ≡ p → (q : Bool) → leb width most ≡ q →
+        cond (p && q) (Kind kind) Unknown ≡ Kind found → (kind ≡ found) × (least ≤ width) × (width ≤ most)
     go true a true b f = (cc, leb-true least width a, leb-true width most b)
     go true a false b f = let z : _≡_ {A = ℕ} 0 1 = cc in absurd (omega arith)
     go false a q b f = let z : _≡_ {A = ℕ} 0 1 = cc in absurd (omega arith)
@@ -80,14 +71,18 @@ permit-gives kind found width least most e = go (leb least width) refl (leb widt
 -- what every row permits
 Every : (FieldKind → ℕ → Type 0) → List Row → Type 0
 Every holds [] = Unit
-Every holds (row code kind least most ∷ rows) = ((width : ℕ) → least ≤ width → width ≤ most → holds kind width) × Every holds rows
+Every holds (row code kind least most ∷ rows) =
+    ((width : ℕ) → least ≤ width → width ≤ most → holds kind width) × Every holds rows
 
-in-rows : (holds : FieldKind → ℕ → Type 0) (rows : List Row) → Every holds rows → (code width : ℕ) (kind : FieldKind) → kindIn rows code width ≡ Kind kind → holds kind width
+in-rows : (holds : FieldKind → ℕ → Type 0) (rows : List Row) → Every holds rows → (code width : ℕ) (kind : FieldKind) →
+    kindIn rows code width ≡ Kind kind → holds kind width
 unfolding Every kindIn
 in-rows holds [] all code width kind e = let z : _≡_ {A = ℕ} 0 1 = cc in absurd (omega arith)
-in-rows holds (row its k least most ∷ rows) all code width kind e = go (eqb code its) e (in-rows holds rows (all .1) code width kind)
+in-rows holds (row its k least most ∷ rows) all code width kind e =
+    go (eqb code its) e (in-rows holds rows (all .1) code width kind)
   where
-    go : (b : Bool) → cond b (permit k width least most) (kindIn rows code width) ≡ Kind kind → (kindIn rows code width ≡ Kind kind → holds kind width) → holds kind width
+    go : (b : Bool) → cond b (permit k width least most) (kindIn rows code width) ≡ Kind kind →
+        (kindIn rows code width ≡ Kind kind → holds kind width) → holds kind width
     go true f ih =
         let p = permit-gives k kind width least most f in
         rw (p .0) at (all .0 width (p .1) (p .2))
@@ -98,7 +93,31 @@ pub kind-width : (code width : ℕ) (kind : FieldKind) → kindOf code width ≡
 unfolding kindOf kinds Permitted Every
 kind-width code width kind e =
     let only : (n w : ℕ) → n ≤ w → w ≤ n → w ≡ n = λ n w l m. le-antisymm m l in
-    in-rows Permitted kinds (λ w l m. (l, m), (only 4, (only 2, (only 4, (only 8, (only 8, (only 1, (λ w l m. (omega arith, m), (λ w l m. (l, m), (λ w l m. (l, m), (λ w l m. (l, m), (λ w l m. (l, m), tt)))))))))))) code width kind e
+    in-rows Permitted kinds (
+      λ w l m. (l, m),
+      (
+        only 4,
+        (
+          only 2,
+          (
+            only 4,
+            (
+              only 8,
+              (
+                only 8,
+                (
+                  only 1,
+                  (
+                    λ w l m. (omega arith, m),
+                    (λ w l m. (l, m), (λ w l m. (l, m), (λ w l m. (l, m), (λ w l m. (l, m), tt)))),
+                  ),
+                ),
+              ),
+            ),
+          ),
+        ),
+      ),
+    ) code width kind e
 
 -- no kind permits a width of 0
 permitted-some : (kind : FieldKind) (width : ℕ) → Permitted kind width → 1 ≤ width

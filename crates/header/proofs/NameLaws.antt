@@ -22,7 +22,9 @@ module _ (t : List ℕ) (end at : ℕ) where
 
   pub name-beyond : end ≤ at + nameLength t at → nextName t end at ≡ Bad
   unfolding nameFits
-  name-beyond h = fits-not (and-third (leb 1 (nameLength t at)) (leb (nameLength t at) 25) (ltb (at + nameLength t at) end) (le-ltb (at + nameLength t at) end h))
+  name-beyond h =
+      fits-not (and-third (leb 1 (nameLength t at)) (leb (nameLength t at) 25) (ltb (at + nameLength t at) end)
+      (le-ltb (at + nameLength t at) end h))
 
   pub name-empty : nameLength t at ≡ 0 → nextName t end at ≡ Bad
   unfolding nameFits
@@ -30,7 +32,9 @@ module _ (t : List ℕ) (end at : ℕ) where
 
   pub name-long : 26 ≤ nameLength t at → nextName t end at ≡ Bad
   unfolding nameFits
-  name-long h = fits-not (and-second (leb 1 (nameLength t at)) (leb (nameLength t at) 25) (ltb (at + nameLength t at) end) (lt-leb (nameLength t at) 25 h))
+  name-long h =
+      fits-not (and-second (leb 1 (nameLength t at)) (leb (nameLength t at) 25) (ltb (at + nameLength t at) end)
+      (lt-leb (nameLength t at) 25 h))
 
   pub name-fits : (i : ℕ) → nameLength t at ≡ i → 1 ≤ i → i ≤ 25 → at + i < end → nextName t end at ≡ Good (at + i + 1)
   unfolding nextName judgedIf nameFits
@@ -50,7 +54,8 @@ module _ (t : List ℕ) (end n start i at : ℕ) (p : NamesLeft t end n start i 
   unfolding nextName namesFit nameFits
   names-more l next e =
       let q = judged-good (nameFits t end at) (at + nameLength t at + 1) next e in
-      let r = and-eq-true-iff (leb 1 (nameLength t at) && leb (nameLength t at) 25) (ltb (at + nameLength t at) end) .0 (q .0) in
+      let r = and-eq-true-iff (leb 1 (nameLength t at) && leb (nameLength t at) 25) (ltb (at + nameLength t at) end) .0
+      (q .0) in
       let s : n - i ≡ suc (n - (i + 1)) = omega arith in
       let m : namesFit t end (n - i) at ≡ namesFit t end (n - (i + 1)) next = rw (s, q .0, q .1) in
       (omega arith, omega (arith, q .1, ltb-true (at + nameLength t at) end (r .1)), sym m ∙ p .2)

@@ -1,4 +1,5 @@
--- Field rules (refusal 7): the pairs of code and width, their sum, and the names. Fields count from 0 here. Definitions only.
+-- Field rules (refusal 7): the pairs of code and width, their sum, and the names. Fields count from 0 here.
+-- Definitions only.
 use Prim.Native.Nat.{ℕ, zero, suc, _+_, _*_}
 use mathlib.Core.Bool.{Bool, true, false, not, _&&_}
 use mathlib.Core.List.{List}

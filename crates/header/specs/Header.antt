@@ -1,19 +1,15 @@
--- Table rules 1 to 7, tried in this order, and the header of a table that keeps them. Definitions only.
-use Prim.Native.Nat.{ℕ, zero, suc, _+_, _*_, _-_}
+-- Table rules 1 to 7, and the verdict that tries them in this order. Definitions only.
+use Prim.Native.Nat.{ℕ, _+_, _*_}
 use mathlib.Core.Bool.{Bool, cond, not, _&&_, _||_}
 use mathlib.Core.List.{List}
 use lib.Dec.{eqb, leb}
-use lib.ListN.{length, replicate}
+use lib.ListN.{length}
 use Rattle.words.specs.Zeros.{allZero}
-use Rattle.header.specs.Refusals.{tooShort, notATable, unknownVersion, encrypted, headerLimit, wrongLength, fieldRule, firstBroken}
-use Rattle.header.specs.Stored.{storedOf, unit, blockSize, encryptionAt, areaAt, namesAt}
-use Rattle.header.specs.Fields.{widthAt, kindAt, widthSum, offsetsOf, fieldsRight}
-use Rattle.header.specs.declared.Header.{Header}
+use Rattle.header.specs.Refusals.{tooShort, notATable, unknownVersion, encrypted, headerLimit}
+use Rattle.header.specs.Refusals.{wrongLength, fieldRule, firstBroken}
+use Rattle.header.specs.Stored.{storedOf, unit, blockSize, encryptionAt}
+use Rattle.header.specs.Fields.{fieldsRight}
 use Rattle.header.specs.declared.stored.Stored.{Stored}
-use Rattle.header.specs.declared.kind.StoredKind.{StoredKind}
-use Rattle.header.specs.declared.kind.StoredKind.the-variants.{Kind, Unknown}
-use Rattle.header.specs.declared.field.Field.{Field}
-use Rattle.header.specs.declared.field.Field.the-variants.{Is, Missing}
 
 -- ---- the limits, by name
 
@@ -50,9 +46,9 @@ mostRecords = 2147483647
 
 -- ---- the rules
 
--- 1: at least 120 bytes
-unfoldable pub longEnough : List ℕ → Bool
-longEnough t = leb leastHeader (length t)
+-- 1: a file of at least 120 bytes
+unfoldable pub longEnough : ℕ → Bool
+longEnough long = leb leastHeader long
 
 -- 2: byte 04 is 0 (a keyed table) or 2 (one without key)
 unfoldable pub isTable : Stored → Bool
@@ -91,87 +87,31 @@ lengthRight long header blocks units = eqb long (header + blocks * (units * unit
 
 -- 7: fieldsRight, of Fields
 
--- the first broken rule's number, or 0
-unfoldable pub headerAnswer : List ℕ → ℕ
-headerAnswer t =
-    firstBroken (longEnough t) tooShort
-    (firstBroken (isTable (storedOf t)) notATable
-    (firstBroken (knownVersion (storedOf t .version)) unknownVersion
-    (firstBroken (unencrypted t (encryptionAt (storedOf t .version))) encrypted
-    (firstBroken (limitsKept (storedOf t)) headerLimit
-    (firstBroken (lengthRight (length t) (storedOf t .«header_size») (storedOf t .blocks) (storedOf t .units)) wrongLength
-    (firstBroken (fieldsRight t (storedOf t)) fieldRule 0))))))
+-- ---- the verdict, of a file by its front and its length: the first broken rule's number, or 0
 
--- ---- the answer
+-- 1 to 5; `others` is what the rules after them answer
+unfoldable pub limitsVerdict : List ℕ → ℕ → ℕ → ℕ
+limitsVerdict front long others =
+    firstBroken (longEnough long) tooShort
+    (firstBroken (isTable (storedOf front)) notATable
+    (firstBroken (knownVersion (storedOf front .version)) unknownVersion
+    (firstBroken (unencrypted front (encryptionAt (storedOf front .version))) encrypted
+    (firstBroken (limitsKept (storedOf front)) headerLimit others))))
 
--- a refusal has its number and no other: the rest is 0
-unfoldable pub refusedWith : ℕ → Header
-refusedWith number =
-    record {
-      refusal = number;
-      version = 0;
-      «header_size» = 0;
-      «block_size» = 0;
-      blocks = 0;
-      «record_size» = 0;
-      records = 0;
-      first = 0;
-      last = 0;
-      free = 0;
-      fields = 0;
-      «key_fields» = 0;
-      area = 0;
-      names = 0;
-      «key_length» = 0;
-      offsets = replicate 256 0;
-    }
+-- 6: the length of a file by its header's numbers
+abbrev pub storedLength : ℕ → Stored → Bool
+storedLength long s = lengthRight long (s .«header_size») (s .blocks) (s .units)
 
--- the numbers of a header that keeps the rules, with its key length and its offsets
-unfoldable pub acceptedWith : Stored → ℕ → List ℕ → Header
-acceptedWith s key offsets =
-    record {
-      refusal = 0;
-      version = s .version;
-      «header_size» = s .«header_size»;
-      «block_size» = blockSize s;
-      blocks = s .blocks;
-      «record_size» = s .«record_size»;
-      records = s .records;
-      first = s .first;
-      last = s .last;
-      free = s .free;
-      fields = s .fields;
-      «key_fields» = s .«key_fields»;
-      area = areaAt (s .version);
-      names = namesAt s;
-      «key_length» = key;
-      offsets = offsets;
-    }
+-- 6 and 7
+unfoldable pub fieldsVerdict : List ℕ → ℕ → ℕ
+fieldsVerdict front long =
+    firstBroken (storedLength long (storedOf front)) wrongLength
+    (firstBroken (fieldsRight front (storedOf front)) fieldRule 0)
 
--- the key length is the widths of the key fields added up
-unfoldable pub acceptedOf : List ℕ → Stored → Header
-acceptedOf t s =
-    acceptedWith s (widthSum t (areaAt (s .version)) (s .«key_fields»)) (offsetsOf t (areaAt (s .version)) (s .fields))
+-- 1 to 7
+unfoldable pub headerVerdict : List ℕ → ℕ → ℕ
+headerVerdict front long = limitsVerdict front long (fieldsVerdict front long)
 
--- the answer by its number: 0 has the numbers, any other has none
-unfoldable pub answerWith : ℕ → List ℕ → Header
-answerWith zero t = acceptedOf t (storedOf t)
-answerWith (suc number) t = refusedWith (suc number)
-
--- what reading a header answers, for any bytes
-unfoldable pub headerOf : List ℕ → Header
-headerOf t = answerWith (headerAnswer t) t
-
--- ---- a field, counted from 1 as document 01 counts them
-
--- a field of a kind that the table has; an accepted table has no other
-unfoldable pub fieldWith : StoredKind → ℕ → ℕ → Field
-fieldWith (Kind kind) width offset = Is kind width offset
-fieldWith Unknown width offset = Missing
-
--- kind, width and offset of field f of an accepted table; Missing where it has no such field
-unfoldable pub fieldOf : List ℕ → Header → ℕ → Field
-fieldOf t h f =
-    cond (leb 1 f && leb f (h .fields))
-    (fieldWith (kindAt t (h .area) (f - 1)) (widthAt t (h .area) (f - 1)) (widthSum t (h .area) (f - 1)))
-    Missing
+-- the verdict on a whole file
+abbrev pub headerRefusal : List ℕ → ℕ
+headerRefusal t = headerVerdict t (length t)

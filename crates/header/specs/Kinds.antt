@@ -13,7 +13,8 @@ use Rattle.header.specs.declared.kind.StoredKind.the-variants.{Kind, Unk
 pub data Row : Type 0 where
   row : ℕ → FieldKind → ℕ → ℕ → Row
 
--- the table; currency (05) shares number's kind, a memo (0C) that of the other blobs
+-- the table; currency (05) shares number's kind. A memo (0C) and the other blobs, binary, formatted memo, OLE and
+-- graphic (0D to 10), share one
 unfoldable pub kinds : List Row
 kinds =
     row 0x01 Text 1 255
@@ -37,7 +38,8 @@ permit kind width least most = cond (leb least width && leb width most) (Kind ki
 -- the kind of the row with this code
 unfoldable pub kindIn : List Row → ℕ → ℕ → StoredKind
 kindIn [] code width = Unknown
-kindIn (row its kind least most ∷ rest) code width = cond (eqb code its) (permit kind width least most) (kindIn rest code width)
+kindIn (row its kind least most ∷ rest) code width =
+    cond (eqb code its) (permit kind width least most) (kindIn rest code width)
 
 -- the kind of a field stored as this code and width, Unknown where the table has no such pair
 unfoldable pub kindOf : ℕ → ℕ → StoredKind

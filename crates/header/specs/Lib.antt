@@ -3,5 +3,7 @@ pub mod Kinds
 pub mod Stored
 pub mod Fields
 pub mod Header
+pub mod Numbers
+pub mod Answers
 pub mod Rules
 pub mod Steps

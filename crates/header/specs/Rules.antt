@@ -1,4 +1,5 @@
--- The header rules as plain propositions: what document 01 asks of a table's header, with each rule's refusal. Definitions only.
+-- The header rules as plain propositions: what document 01 asks of a table's header, with each rule's refusal.
+-- Definitions only.
 use Prim.Native.Nat.{ℕ, suc, _+_, _-_, _*_, _≤_, _<_}
 use mathlib.Core.Path.{_≡_}
 use mathlib.Core.List.{List}
@@ -8,7 +9,9 @@ use Rattle.words.specs.Numbers.{byte}
 use Rattle.header.specs.Kinds.{kindOf, Permitted}
 use Rattle.header.specs.Stored.{storedOf, unit, blockSize, encryptionAt, areaAt, namesAt}
 use Rattle.header.specs.Fields.{widthAt, kindAt, widthSum, longestName}
-use Rattle.header.specs.Header.{leastHeader, leastVersion, mostVersion, mostUnits, blockHead, mostBlocks, mostFields, mostRecords, headerOf}
+use Rattle.header.specs.Header.{leastHeader, leastVersion, mostVersion, mostUnits}
+use Rattle.header.specs.Header.{blockHead, mostBlocks, mostFields, mostRecords}
+use Rattle.header.specs.Numbers.{numbersOf}
 use Rattle.header.specs.declared.Header.{Header}
 use Rattle.header.specs.declared.stored.Stored.{Stored}
 use Rattle.header.specs.declared.kind.FieldKind.{FieldKind}
@@ -50,27 +53,27 @@ pub record FieldRules (t : List ℕ) (s : Stored) : Type 0 where
   pub widths : widthSum t (areaAt (s .version)) (s .fields) ≡ s .«record_size»
   pub names : Names t (s .«header_size») (s .fields) (namesAt s)
 
--- rules 1 to 7
-pub record HeaderRules (t : List ℕ) : Type 0 where
+-- rules 1 to 7, of a file by its front and its length
+pub record HeaderRules (front : List ℕ) (long : ℕ) : Type 0 where
   -- 1
-  pub long : leastHeader ≤ length t
+  pub long-enough : leastHeader ≤ long
   -- 2
-  pub kind : (storedOf t .kind ≡ 0) ⊎ (storedOf t .kind ≡ 2)
+  pub kind : (storedOf front .kind ≡ 0) ⊎ (storedOf front .kind ≡ 2)
   -- 3
-  pub version-least : leastVersion ≤ storedOf t .version
-  pub version-most : storedOf t .version ≤ mostVersion
+  pub version-least : leastVersion ≤ storedOf front .version
+  pub version-most : storedOf front .version ≤ mostVersion
   -- 4: no encryption
-  pub unencrypted : (i : ℕ) → i < 4 → byte t (encryptionAt (storedOf t .version) + i) ≡ 0
+  pub unencrypted : (i : ℕ) → i < 4 → byte front (encryptionAt (storedOf front .version) + i) ≡ 0
   -- 5
-  pub limits : Limits (storedOf t)
+  pub limits : Limits (storedOf front)
   -- 6
-  pub whole : length t ≡ storedOf t .«header_size» + storedOf t .blocks * blockSize (storedOf t)
+  pub whole : long ≡ storedOf front .«header_size» + storedOf front .blocks * blockSize (storedOf front)
   -- 7
-  pub fields : FieldRules t (storedOf t)
+  pub fields : FieldRules front (storedOf front)
 
--- what an accepted header gives the crates above: bounds, the file's length, where a field is
+-- what a file that keeps rules 1 to 7 gives the crates above: the header's numbers, their bounds, where a field is
 pub record Accepted (t : List ℕ) (h : Header) : Type 0 where
-  pub same : h ≡ headerOf t
+  pub same : h ≡ numbersOf t
   pub whole : length t ≡ h .«header_size» + h .blocks * h .«block_size»
   pub header-least : leastHeader ≤ h .«header_size»
   pub block-least : unit ≤ h .«block_size»
@@ -91,8 +94,8 @@ pub record Accepted (t : List ℕ) (h : Header) : Type 0 where
   pub key-least : 1 ≤ h .«key_fields» → 1 ≤ h .«key_length»
   pub pairs : (f : ℕ) → f < h .fields → kindAt t (h .area) f ≡ Unknown → ⊥
 
--- a field of an accepted table: its number is one of the fields', its kind and width are those of the stored pair, the kind permits
--- the width, and it ends inside the record
+-- a field of such a table: its number is one of the fields', its kind and width are those of the stored pair, the
+-- kind permits the width, and it ends inside the record
 pub record FieldBounds (t : List ℕ) (h : Header) (f : ℕ) (kind : FieldKind) (width offset : ℕ) : Type 0 where
   pub least : 1 ≤ f
   pub most : f ≤ h .fields

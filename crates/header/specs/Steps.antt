@@ -3,11 +3,15 @@ use Prim.Native.Nat.{ℕ, _+_, _≤_, _<_}
 use mathlib.Core.Bool.{Bool, true, false, cond}
 use mathlib.Core.List.{List}
 use lib.ListN.{length}
+use Rattle.words.specs.Numbers.{byte}
 use Rattle.header.specs.Refusals.{fieldRule}
 use Rattle.header.specs.Stored.{namesAt}
-use Rattle.header.specs.Fields.{nameLength, nameFits, fieldsRight}
-use Rattle.header.specs.Header.{mostUnits, mostFields, acceptedOf, refusedWith}
-use Rattle.header.specs.declared.Header.{Header}
+use Rattle.header.specs.Kinds.{kindOf}
+use Rattle.header.specs.Fields.{allowed, nameLength, nameFits, fieldsRight}
+use Rattle.header.specs.Header.{mostUnits, mostFields}
+use Rattle.header.specs.Numbers.{numbersIn}
+use Rattle.header.specs.Answers.{acceptedWith, refusedWith}
+use Rattle.header.specs.declared.HeaderAnswer.{HeaderAnswer}
 use Rattle.header.specs.declared.stored.Stored.{Stored}
 use Rattle.header.specs.declared.judged.Judged.{Judged}
 use Rattle.header.specs.declared.judged.Judged.the-variants.{Good, Bad}
@@ -16,6 +20,10 @@ use Rattle.header.specs.declared.judged.Judged.the-variants.{Good, Bad}
 unfoldable pub judgedIf : Bool → ℕ → Judged
 judgedIf true n = Good n
 judgedIf false n = Bad
+
+-- the width of the pair at a place, where its kind is allowed
+abbrev pub pairJudged : List ℕ → ℕ → Bool → Judged
+pairJudged t at keyed = judgedIf (allowed keyed (kindOf (byte t at) (byte t (at + 1)))) (byte t (at + 1))
 
 -- where the name after the one at a place begins, if that one fits
 unfoldable pub nextName : List ℕ → ℕ → ℕ → Judged
@@ -30,5 +38,5 @@ pub record Placed (t : List ℕ) (s : Stored) : Type 0 where
   pub inside : s .«header_size» ≤ length t
 
 -- what rule 7 answers of a header that keeps the rules before it
-unfoldable pub fieldsAnswer : List ℕ → Stored → Header
-fieldsAnswer t s = cond (fieldsRight t s) (acceptedOf t s) (refusedWith fieldRule)
+unfoldable pub fieldsAnswer : List ℕ → Stored → HeaderAnswer
+fieldsAnswer t s = cond (fieldsRight t s) (acceptedWith (numbersIn t s)) (refusedWith fieldRule)

@@ -44,6 +44,11 @@ encryptionAt version = cond (early version) 0x25 0x5C
 abbrev pub areaAt : ℕ → ℕ
 areaAt version = cond (early version) 0x58 0x78
 
--- from the start of the field area of n fields it is 6n + 83 bytes to the first name
+-- the table's name, which stands before the field names, takes so many bytes
+abbrev pub tableName : ℕ
+tableName = 79
+
+-- the field area's pairs, a pointer to the table's name, pointers to the field names and the table's name come before
+-- the first field name: 6n + 83 bytes from the start of the field area of n fields
 abbrev pub namesAt : Stored → ℕ
-namesAt s = areaAt (s .version) + (6 * s .fields + 83)
+namesAt s = areaAt (s .version) + (6 * s .fields + (tableName + 4))

@@ -1,6 +1,6 @@
 // A field of an accepted table.
 ghost use mathlib.Core.Path.{_≡_};
-ghost use Rattle.header.specs.Header.{fieldOf};
+ghost use Rattle.header.specs.Numbers.{fieldOf};
 ghost use Rattle.header.specs.Rules.{Accepted};
 use crate::Header;
 use crate::kind::FieldKind;

@@ -2,8 +2,8 @@
 ghost use mathlib.Core.Path.{_≡_};
 ghost use Rattle.header.specs.Kinds.{isBlob, kindOf, permit};
 
-// What a field holds. Currency (05) and number (06) hold the same values and are one kind here,
-// and so are memo (0C) and the other blobs (0D..10).
+// What a field holds. Currency (05) and number (06) hold the same values and are one kind here, and so are memo (0C),
+// binary (0D), formatted memo (0E), OLE (0F) and graphic (10), which are blobs.
 pub enum FieldKind {
     Text,
     Date,
@@ -41,6 +41,8 @@ impl FieldKind {
 
     pub const CURRENCY: u8 = 0x05;
 
+    pub const CURRENCY_WIDTH: usize = 8;
+
     pub const NUMBER: u8 = 0x06;
 
     pub const NUMBER_WIDTH: usize = 8;
@@ -53,13 +55,31 @@ impl FieldKind {
 
     pub const MEMO_LEAST: usize = 11;
 
-    pub const BLOB_FIRST: u8 = 0x0d;
+    pub const MEMO_MOST: usize = 250;
 
-    pub const BLOB_LAST: u8 = 0x10;
+    pub const BINARY: u8 = 0x0d;
 
-    pub const BLOB_LEAST: usize = 10;
+    pub const BINARY_LEAST: usize = 10;
 
-    pub const BLOB_MOST: usize = 250;
+    pub const BINARY_MOST: usize = 250;
+
+    pub const FORMATTED_MEMO: u8 = 0x0e;
+
+    pub const FORMATTED_MEMO_LEAST: usize = 10;
+
+    pub const FORMATTED_MEMO_MOST: usize = 250;
+
+    pub const OLE: u8 = 0x0f;
+
+    pub const OLE_LEAST: usize = 10;
+
+    pub const OLE_MOST: usize = 250;
+
+    pub const GRAPHIC: u8 = 0x10;
+
+    pub const GRAPHIC_LEAST: usize = 10;
+
+    pub const GRAPHIC_MOST: usize = 250;
 
     // The kind of a field that is stored as this code and width.
     pub fn of(code: u8, width: usize) -> StoredKind
@@ -70,12 +90,29 @@ impl FieldKind {
             Self::DATE => exactly(FieldKind::Date, width, Self::DATE_WIDTH),
             Self::SHORT => exactly(FieldKind::Short, width, Self::SHORT_WIDTH),
             Self::LONG => exactly(FieldKind::Long, width, Self::LONG_WIDTH),
-            Self::CURRENCY | Self::NUMBER => exactly(FieldKind::Number, width, Self::NUMBER_WIDTH),
+            Self::CURRENCY => exactly(FieldKind::Number, width, Self::CURRENCY_WIDTH),
+            Self::NUMBER => exactly(FieldKind::Number, width, Self::NUMBER_WIDTH),
             Self::LOGICAL => exactly(FieldKind::Logical, width, Self::LOGICAL_WIDTH),
-            Self::MEMO => permitted(FieldKind::Blob, width, Self::MEMO_LEAST, Self::BLOB_MOST),
-            Self::BLOB_FIRST..=Self::BLOB_LAST => {
-                permitted(FieldKind::Blob, width, Self::BLOB_LEAST, Self::BLOB_MOST)
-            }
+            Self::MEMO => permitted(FieldKind::Blob, width, Self::MEMO_LEAST, Self::MEMO_MOST),
+            Self::BINARY => permitted(
+                FieldKind::Blob,
+                width,
+                Self::BINARY_LEAST,
+                Self::BINARY_MOST,
+            ),
+            Self::FORMATTED_MEMO => permitted(
+                FieldKind::Blob,
+                width,
+                Self::FORMATTED_MEMO_LEAST,
+                Self::FORMATTED_MEMO_MOST,
+            ),
+            Self::OLE => permitted(FieldKind::Blob, width, Self::OLE_LEAST, Self::OLE_MOST),
+            Self::GRAPHIC => permitted(
+                FieldKind::Blob,
+                width,
+                Self::GRAPHIC_LEAST,
+                Self::GRAPHIC_MOST,
+            ),
             _ => StoredKind::Unknown,
         }
     }

@@ -9,6 +9,7 @@ pub mod refusal;
 mod rules;
 mod stored;
 
+pub use answer::refused;
 pub use field::Field;
 pub use field::field_of;
 pub use kind::FieldKind;
@@ -22,13 +23,10 @@ pub use rules::known_version;
 pub use stored::block_bytes;
 pub use stored::block_size;
 ghost use mathlib.Core.Path.{_≡_};
-ghost use Rattle.header.specs.Header.{headerOf};
-use crate::answer::refused;
+ghost use Rattle.header.specs.Answers.{Front, frontAnswer, headerAnswer};
 
-// What reading a header answers: refusal 0 and the header's numbers, or a refusal's number with every
-// other number 0. Sizes and lengths are in bytes.
+// The numbers of a header. Sizes and lengths are in bytes.
 pub struct Header {
-    pub refusal: u8,
     pub version: u8,
     pub header_size: u16,
     pub block_size: u16,
@@ -51,27 +49,46 @@ pub struct Header {
     pub offsets: [u16; 256],
 }
 
+// What reading a header answers: refusal 0 and the header's numbers, or a refusal's number with every other number 0.
+pub struct HeaderAnswer {
+    pub refusal: u8,
+    pub header: Header,
+}
+
 // The header of a table: the first of rules 1 to 7 that any bytes break, or the header's numbers.
-pub fn read(t: &[u8]) -> Header
-    ensures { λ r. ⌜ r ≡ headerOf (now (t .entry)) ⌝ }
+pub fn read(t: &[u8]) -> HeaderAnswer
+    ensures { λ r. ⌜ r ≡ headerAnswer (now (t .entry)) ⌝ }
 {
-    if t.len() < rules::LEAST_LENGTH {
+    judge(t, t.len(), refusal::WRONG_LENGTH)
+}
+
+// Tries rules 1 to 7 on a file of this length by its front: the header's numbers, or the first broken rule's number,
+// with `short` behind 5 and before 6 where the front ends inside the header. A helper: its caller has at least 120
+// bytes of every file that is so long. Of a whole file `short` is 6, as its length is wrong then.
+pub fn judge(front: &[u8], long: usize, short: u8) -> HeaderAnswer
+    requires { ⌜ Front (now front) long short ⌝ }
+    ensures { λ r. ⌜ r ≡ frontAnswer short (now (front .entry)) long ⌝ }
+{
+    if long < rules::LEAST_LENGTH {
         return refused(refusal::TOO_SHORT);
     }
-    let s = stored::read_stored(t);
+    let s = stored::read_stored(front);
     if !rules::is_table(s) {
         return refused(refusal::NOT_A_TABLE);
     }
     if !rules::known_version(s.version) {
         return refused(refusal::UNKNOWN_VERSION);
     }
-    if !rules::is_unencrypted(t, stored::encryption_at(s.version)) {
+    if !rules::is_unencrypted(front, stored::encryption_at(s.version)) {
         return refused(refusal::ENCRYPTED);
     }
     if !rules::limits_kept(s) {
         return refused(refusal::HEADER_LIMIT);
     }
-    let whole = rules::is_length_right(t.len(), s.header_size, s.blocks, s.units);
+    if front.len() < s.header_size as usize {
+        return refused(short);
+    }
+    let whole = rules::is_length_right(long, s.header_size, s.blocks, s.units);
     let room = rules::has_room(s);
     if !whole {
         return refused(refusal::WRONG_LENGTH);
@@ -79,5 +96,5 @@ pub fn read(t: &[u8]) -> Header
     if !room {
         return refused(refusal::FIELD_RULE);
     }
-    answer::with_fields(t, s)
+    answer::with_fields(front, s)
 }

@@ -1,5 +1,5 @@
 // The field names: zero-ended, 1 to 25 bytes each, wholly inside the header (rule 7).
-// The module is private: its functions are helpers of `header::read`, which meets what they require.
+// The module is private: its functions are helpers of `header::judge`, which meets what they require.
 ghost use mathlib.Core.Path.{_≡_};
 ghost use Prim.Native.Nat.{_≤_};
 ghost use lib.ListN.{length};

@@ -1,12 +1,12 @@
-// Table rules 2 to 6 as tests of the stored numbers, and the limits that they name.
-// The module is private: its functions are helpers of `header::read`, which meets what they require. Those for 23 and 26
-// serve the index too.
+// Table rules 2 to 6 as tests of the stored numbers, and the limits that they name. The module is private: its
+// functions are helpers of `header::judge`, which meets what they require. Those for 23 and 26 serve the index too.
 ghost use mathlib.Core.Path.{_≡_};
 ghost use Prim.Native.Nat.{_+_, _≤_};
 ghost use lib.Dec.{ltb};
 ghost use lib.ListN.{length};
 ghost use Rattle.header.specs.Stored.{namesAt};
-ghost use Rattle.header.specs.Header.{isTable, keyedRight, knownVersion, lengthRight, limitsKept, mostFields, unencrypted};
+ghost use Rattle.header.specs.Header.{isTable, keyedRight, knownVersion, lengthRight, limitsKept};
+ghost use Rattle.header.specs.Header.{mostFields, unencrypted};
 use crate::stored::Stored;
 use crate::stored::block_size;
 use crate::stored::names_at;

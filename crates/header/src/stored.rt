@@ -1,5 +1,5 @@
 // The numbers of a header as they are stored: where each stands, and what depends on the version.
-// The module is private: its functions are helpers of `header::read`, which meets what they require.
+// The module is private: its functions are helpers of `header::judge`, which meets what they require.
 ghost use mathlib.Core.Path.{_≡_};
 ghost use Prim.Native.Nat.{_+_, _*_, _≤_};
 ghost use lib.ListN.{length};
@@ -47,10 +47,15 @@ const EARLY_AREA: u16 = 0x58;
 
 const AREA: u16 = 0x78;
 
-// From the start of the field area of n fields it is 6n + 83 bytes to the first name.
-const NAMES_AFTER: u16 = 83;
+// From the start of the field area of n fields it is 6n + 83 bytes to the first name: a pair and a pointer a field, a
+// pointer to the table's name, and that name.
+const PER_FIELD: u16 = 6;
 
-const NAMES_PER_FIELD: u16 = 6;
+const POINTER: u16 = 4;
+
+const TABLE_NAME: u16 = 79;
+
+const BEFORE_NAMES: u16 = TABLE_NAME + POINTER;
 
 // The record count is signed in the file; it is kept as an unsigned number and judged by its limit.
 pub struct Stored {
@@ -133,5 +138,5 @@ pub fn names_at(s: Stored) -> u16
     requires { ⌜ s .fields ≤ mostFields ⌝ }
     ensures { λ r. ⌜ r ≡ namesAt s ⌝ }
 {
-    area_at(s.version) + (NAMES_PER_FIELD * s.fields + NAMES_AFTER)
+    area_at(s.version) + (PER_FIELD * s.fields + BEFORE_NAMES)
 }

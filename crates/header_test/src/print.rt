@@ -53,7 +53,6 @@ fn field_values(field: Field) {
 }
 
 fn numbers(h: Header) {
-    byte(b": ", h.refusal);
     byte(b" version ", h.version);
     word(b" header ", h.header_size);
     word(b" block ", h.block_size);
@@ -94,9 +93,11 @@ fn field_lines(t: &[u8], h: Header)
 // A line with the header's numbers; of an accepted table also its fields.
 pub fn show(label: &[u8], t: &[u8]) {
     io::write_all(STDOUT_FILENO, label);
-    let h = header::read(t);
+    let answer = header::read(t);
+    byte(b": ", answer.refusal);
+    let h = answer.header;
     numbers(h);
-    if h.refusal == 0 {
+    if answer.refusal == 0 {
         field_lines(t, h);
     }
 }

@@ -1,5 +1,5 @@
--- What reading an index's header answers, for the crates above: refused with a number only, or accepted with its bounds.
--- Assumes nothing.
+-- What reading an index's header answers, for the crates above: refused with a number only, or accepted with its
+-- bounds. Assumes nothing.
 use Prim.Native.Nat.{ℕ, zero, suc, _≤_}
 use mathlib.Core.Path.{_≡_, refl, sym, _∙_}
 use mathlib.Core.List.{List}

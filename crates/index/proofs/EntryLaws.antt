@@ -1,5 +1,5 @@
--- The entries of an index block: how many there are, that they are inside the file, and the block that a key leads to, entry by entry
--- from the last one. Assumes nothing.
+-- The entries of an index block: how many there are, that they are inside the file, and the block that a key leads
+-- to, entry by entry from the last one. Assumes nothing.
 use Prim.Native.Nat.{ℕ, zero, suc, _+_, _-_, _≤_, _<_}
 use mathlib.Core.Path.{_≡_, refl, _∙_}
 use mathlib.Core.Bool.{Bool, true, false}
@@ -9,19 +9,18 @@ use native.Mathlib.Omega.{arith}
 use lib.ListN.{length}
 use borrow.Author.Tests.{eq-eqb, ne-eqb}
 use Rattle.words.specs.Order.{isAtMost, order}
-use Rattle.blocks.specs.Shape.{hasBlock, recordAt}
+use Rattle.header.specs.Refusals.{indexTree}
+use Rattle.blocks.specs.Shape.{hasBlock, recordAt, RunInside}
 use Rattle.blocks.specs.Counts.{countIn}
 use Rattle.blocks.specs.declared.Shape.{Shape}
 use Rattle.blocks.specs.declared.count.Count.{Count}
 use Rattle.blocks.specs.declared.count.Count.the-variants.{Records, Bad}
-use Rattle.blocks.proofs.CountLaws.{record-in-file}
+use Rattle.blocks.proofs.CountLaws.{record-in-file, run-inside}
 use Rattle.blocks.proofs.ShapeLaws.{has-block}
 use Rattle.table.specs.Records.{held}
-use Rattle.table.specs.Steps.{RunInside}
-use Rattle.table.proofs.KeyLaws.{run-inside}
 use Rattle.index.specs.Header.{entryNumbers}
-use Rattle.index.specs.Entries.{entriesIn, entryKey, entryBlock, below}
-use Rattle.index.specs.Steps.{EntriesInside, descentOf}
+use Rattle.index.specs.Entries.{entriesIn, entryKey, entryBlock, below, EntriesInside}
+use Rattle.index.specs.Steps.{descentOf}
 use Rattle.index.specs.declared.entries.Below.the-variants.{Block, Nothing}
 use Rattle.index.specs.declared.entries.Descent.the-variants.{Read, Refused}
 
@@ -51,7 +50,8 @@ module _ (x : List ℕ) (g : Shape) (b : ℕ) where
   with-entries l = by-file (hasBlock g b) refl
     where
       by-count : hasBlock g b ≡ true → (c : Count) → countIn x g b ≡ c → WithEntries
-      by-count e (Records n) f = let p = has-block g b e in record { low = p .0; high = p .1; counted = f ∙ rw (entries-counted n e f) }
+      by-count e (Records n) f =
+          let p = has-block g b e in record { low = p .0; high = p .1; counted = f ∙ rw (entries-counted n e f) }
       by-count e Bad f = absurd (omega (arith, entries-bad e f))
 
       by-file : (c : Bool) → hasBlock g b ≡ c → WithEntries
@@ -60,12 +60,15 @@ module _ (x : List ℕ) (g : Shape) (b : ℕ) where
 
   -- ---- where they stand
 
-  pub entries-inside : (n : ℕ) → EntriesInside x g n → 0 < entriesIn x g b → entriesIn x g b < 65536 → RunInside x g (n + entryNumbers) b (entriesIn x g b)
+  pub entries-inside : (n : ℕ) → EntriesInside x g n → 0 < entriesIn x g b → entriesIn x g b < 65536 →
+      RunInside x g (n + entryNumbers) b (entriesIn x g b)
   entries-inside n a l few =
       let w = with-entries l in
-      run-inside x g (a .sound) b (w .low) (w .high) (entriesIn x g b) (w .counted) (n + entryNumbers) (omega (arith, a .size)) few
+      run-inside x g (a .sound) b (w .low) (w .high) (entriesIn x g b) (w .counted) (n + entryNumbers)
+      (omega (arith, a .size)) few
 
-  pub entry-inside : (n i : ℕ) → EntriesInside x g n → i < entriesIn x g b → recordAt g b i + n + entryNumbers ≤ length x
+  pub entry-inside : (n i : ℕ) → EntriesInside x g n → i < entriesIn x g b →
+      recordAt g b i + n + entryNumbers ≤ length x
   entry-inside n i a l =
       let w = with-entries (omega arith) in
       omega (arith, a .size, record-in-file x g (a .sound) b (entriesIn x g b) (w .counted) (w .low) (w .high) i l)
@@ -73,7 +76,7 @@ module _ (x : List ℕ) (g : Shape) (b : ℕ) where
   -- ---- the way down
 
   module _ (key : List ℕ) where
-    pub descent-refused : entriesIn x g b ≡ 0 → descentOf x g key b ≡ Refused
+    pub descent-refused : entriesIn x g b ≡ 0 → descentOf x g key b ≡ Refused indexTree
     unfolding descentOf
     descent-refused e = rw (eq-eqb (entriesIn x g b) 0 e)
 
@@ -82,12 +85,14 @@ module _ (x : List ℕ) (g : Shape) (b : ℕ) where
     descent-read ne = rw (ne-eqb (entriesIn x g b) 0 ne)
 
     -- the last of m entries decides where its key is at most the one sought, else those before it
-    pub below-hit : (m : ℕ) → 0 < m → isAtMost (order (entryKey x g (length key) b (m - 1)) key) ≡ true → below x g key b m ≡ Block (entryBlock x g (length key) b (m - 1))
+    pub below-hit : (m : ℕ) → 0 < m → isAtMost (order (entryKey x g (length key) b (m - 1)) key) ≡ true →
+        below x g key b m ≡ Block (entryBlock x g (length key) b (m - 1))
     unfolding below
     below-hit zero l e = absurd (not-suc-le-zero l)
     below-hit (suc i) l e = let f : suc i - 1 ≡ i = omega arith in let d = rw f at e in rw (f, d)
 
-    pub below-miss : (m : ℕ) → 0 < m → isAtMost (order (entryKey x g (length key) b (m - 1)) key) ≡ false → below x g key b m ≡ below x g key b (m - 1)
+    pub below-miss : (m : ℕ) → 0 < m → isAtMost (order (entryKey x g (length key) b (m - 1)) key) ≡ false →
+        below x g key b m ≡ below x g key b (m - 1)
     unfolding below
     below-miss zero l e = absurd (not-suc-le-zero l)
     below-miss (suc i) l e = let f : suc i - 1 ≡ i = omega arith in let d = rw f at e in rw (f, d)

@@ -1,4 +1,5 @@
--- The index rules as tests are the rules as propositions: the answer is 0 exactly when IndexRules holds. Assumes nothing.
+-- The index rules as tests are the rules as propositions: the answer is 0 exactly when IndexRules holds. Assumes
+-- nothing.
 use Prim.Native.Nat.{ℕ, _+_, _*_}
 use mathlib.Core.Path.{_≡_, refl}
 use mathlib.Core.Bool.{Bool, true, false, _&&_, _||_}
@@ -10,11 +11,12 @@ use borrow.Author.Tests.{eq-eqb, eqb-true, le-leb, leb-true}
 use Rattle.words.proofs.Conjunctions.{both, join}
 use Rattle.header.specs.Stored.{unit}
 use Rattle.header.specs.Header.{leastVersion, mostVersion, mostUnits, blockHead, mostBlocks, knownVersion, lengthRight}
-use Rattle.header.proofs.RuleLaws.{kept-of}
+use Rattle.header.proofs.VerdictLaws.{kept-of}
 use Rattle.blocks.specs.Shape.{inFile}
 use Rattle.blocks.proofs.ShapeLaws.{in-file, file-has}
 use Rattle.index.specs.Stored.{storedOf}
-use Rattle.index.specs.Header.{leastIndex, indexKind, entryNumbers, mostLevels, longEnough, isIndex, rootRight, limitsKept, indexAnswer}
+use Rattle.index.specs.Header.{leastIndex, indexKind, entryNumbers, mostLevels, longEnough, isIndex, rootRight}
+use Rattle.index.specs.Header.{limitsKept, indexAnswer}
 use Rattle.index.specs.Rules.{Rooted, IndexLimits, IndexRules}
 use Rattle.index.specs.declared.stored.Stored.{Stored}
 
@@ -34,7 +36,9 @@ module _ (s : Stored) where
   root-gives e = go isEmpty refl e
     where
       go : (b : Bool) → isEmpty ≡ b → (b || isRooted) ≡ true → ((s .root ≡ 0) × (s .levels ≡ 0)) ⊎ Rooted s
-      go true f g = let p = both {a = eqb (s .root) 0} {b = eqb (s .levels) 0} f in inl (eqb-true (s .root) 0 (p .0), eqb-true (s .levels) 0 (p .1))
+      go true f g =
+          let p = both {a = eqb (s .root) 0} {b = eqb (s .levels) 0} f in inl
+          (eqb-true (s .root) 0 (p .0), eqb-true (s .levels) 0 (p .1))
       go false f g =
           let p = both {a = inFile (s .blocks) (s .root) && leb 1 (s .levels)} {b = leb (s .levels) mostLevels} g in
           let q = both {a = inFile (s .blocks) (s .root)} {b = leb 1 (s .levels)} (p .0) in
@@ -50,7 +54,9 @@ module _ (s : Stored) where
   root-takes : ((s .root ≡ 0) × (s .levels ≡ 0)) ⊎ Rooted s → rootRight s ≡ true
   unfolding rootRight
   root-takes (inl p) = rw (eq-eqb (s .root) 0 (p .0), eq-eqb (s .levels) 0 (p .1))
-  root-takes (inr r) = go isEmpty (join (join (file-has (s .blocks) (s .root) (r .root-least) (r .root-most)) (le-leb 1 (s .levels) (r .levels-least))) (le-leb (s .levels) mostLevels (r .levels-most)))
+  root-takes (inr r) =
+      go isEmpty (join (join (file-has (s .blocks) (s .root) (r .root-least) (r .root-most))
+      (le-leb 1 (s .levels) (r .levels-least))) (le-leb (s .levels) mostLevels (r .levels-most)))
     where
       go : (b : Bool) → isRooted ≡ true → (b || isRooted) ≡ true
       go true e = refl
@@ -81,7 +87,10 @@ module _ (n : ℕ) (s : Stored) where
   limits-take : IndexLimits n s → limitsKept n s ≡ true
   unfolding limitsKept
   limits-take l =
-      join (join (join (join (join (join (eq-eqb (s .«record_size») (n + entryNumbers) (l .size)) (le-leb leastIndex (s .«header_size») (l .header-least))) (le-leb 1 (s .units) (l .units-least))) (le-leb (s .units) mostUnits (l .units-most))) (le-leb (s .blocks) mostBlocks (l .blocks-most))) (le-leb (s .«record_size» + blockHead) (s .units * unit) (l .size-most))) (root-takes s (l .root))
+      join (join (join (join (join (join (eq-eqb (s .«record_size») (n + entryNumbers) (l .size))
+      (le-leb leastIndex (s .«header_size») (l .header-least))) (le-leb 1 (s .units) (l .units-least)))
+      (le-leb (s .units) mostUnits (l .units-most))) (le-leb (s .blocks) mostBlocks (l .blocks-most)))
+      (le-leb (s .«record_size» + blockHead) (s .units * unit) (l .size-most))) (root-takes s (l .root))
 
 -- ---- 21, 22, 23, 25 and 26
 
@@ -109,4 +118,11 @@ module _ (x : List ℕ) (n : ℕ) where
   unfolding indexAnswer longEnough isIndex knownVersion lengthRight
   answer-takes r =
       let s = storedOf x in
-      rw (le-leb leastIndex (length x) (r .long), eq-eqb (s .kind) indexKind (r .kind), le-leb leastVersion (s .version) (r .version-least), le-leb (s .version) mostVersion (r .version-most), limits-take n s (r .limits), eq-eqb (length x) (s .«header_size» + s .blocks * (s .units * unit)) (r .whole))
+      rw (
+        le-leb leastIndex (length x) (r .long),
+        eq-eqb (s .kind) indexKind (r .kind),
+        le-leb leastVersion (s .version) (r .version-least),
+        le-leb (s .version) mostVersion (r .version-most),
+        limits-take n s (r .limits),
+        eq-eqb (length x) (s .«header_size» + s .blocks * (s .units * unit)) (r .whole),
+      )

@@ -1,5 +1,5 @@
--- Index rules 21, 22, 23, 25 and 26, tried in this order, and the header of an index file that keeps them; n is the table's key
--- length. Definitions only.
+-- Index rules 21, 22, 23, 25 and 26, tried in this order, and the header of an index file that keeps them; n is the
+-- table's key length. Definitions only.
 use Prim.Native.Nat.{ℕ, zero, suc, _+_, _*_}
 use mathlib.Core.Bool.{Bool, _&&_, _||_}
 use mathlib.Core.List.{List}
@@ -58,14 +58,18 @@ limitsKept n s =
     && leb (s .«record_size» + blockHead) (s .units * unit)
     && rootRight s
 
--- the first broken rule's number, or 0. 23 is 3's rule and 26 is 6's
+-- 26: the length is that of the header and the blocks; it is 6's rule
+abbrev pub lengthKept : ℕ → Stored → Bool
+lengthKept bytes s = lengthRight bytes (s .«header_size») (s .blocks) (s .units)
+
+-- the first broken rule's number, or 0. 23 is 3's rule
 unfoldable pub indexAnswer : List ℕ → ℕ → ℕ
 indexAnswer x n =
     firstBroken (longEnough x) indexTooShort
     (firstBroken (isIndex (storedOf x)) notAnIndex
     (firstBroken (knownVersion (storedOf x .version)) indexVersion
     (firstBroken (limitsKept n (storedOf x)) indexLimit
-    (firstBroken (lengthRight (length x) (storedOf x .«header_size») (storedOf x .blocks) (storedOf x .units)) indexLength 0))))
+    (firstBroken (lengthKept (length x) (storedOf x)) indexLength 0))))
 
 -- ---- the answer
 
@@ -79,12 +83,18 @@ refusedWith number =
       levels = 0;
     }
 
--- the numbers of a header that keeps the rules: the file's shape, whose records are the entries, the root and the levels
+-- the numbers of a header that keeps the rules: the file's shape, whose records are the entries, the root and the
+-- levels
 unfoldable pub acceptedOf : Stored → IndexHeader
 acceptedOf s =
     record {
       refusal = 0;
-      shape = record { «header_size» = s .«header_size»; «block_size» = s .units * unit; blocks = s .blocks; «record_size» = s .«record_size» };
+      shape = record {
+        «header_size» = s .«header_size»;
+        «block_size» = s .units * unit;
+        blocks = s .blocks;
+        «record_size» = s .«record_size»;
+      };
       root = s .root;
       levels = s .levels;
     }

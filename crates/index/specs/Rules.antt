@@ -1,4 +1,5 @@
--- The index rules as plain propositions, what an accepted index gives the crates above, and a walk's count. Definitions only.
+-- The index rules as plain propositions, what an accepted index gives the crates above, and a walk's count.
+-- Definitions only.
 use Prim.Native.Nat.{ℕ, _+_, _*_, _≤_}
 use mathlib.Core.Path.{_≡_}
 use mathlib.Core.List.{List}
@@ -7,12 +8,12 @@ use lib.ListN.{length}
 use Rattle.header.specs.Stored.{unit}
 use Rattle.header.specs.Header.{leastVersion, mostVersion, mostUnits, blockHead, mostBlocks}
 use Rattle.blocks.specs.Shape.{Sound}
-use Rattle.scan.specs.declared.found.Found.the-variants.{At, Refused}
+use Rattle.lookup.specs.declared.found.Found.the-variants.{At, Refused}
 use Rattle.index.specs.Stored.{storedOf}
 use Rattle.index.specs.Header.{leastIndex, indexKind, entryNumbers, mostLevels, indexOf}
 use Rattle.index.specs.declared.IndexHeader.{IndexHeader}
 use Rattle.index.specs.declared.stored.Stored.{Stored}
-use Rattle.index.specs.declared.lookup.Walked.{Walked}
+use Rattle.index.specs.declared.walking.Walked.{Walked}
 
 -- 25: a root that is a block of the file, and 1 to 8 levels
 pub record Rooted (s : Stored) : Type 0 where
@@ -53,8 +54,8 @@ pub record AcceptedIndex (x : List ℕ) (n : ℕ) (i : IndexHeader) : Type 0 whe
   pub levels-most : i .levels ≤ mostLevels
   pub levels-least : (i .root ≡ 0 → ⊥) → 1 ≤ i .levels
 
--- what a walk's count is by its answer, where `reads` index blocks were read before and there are so many levels to come: 0 with a
--- refusal, whose number is not 0; one a level with a record; no more than that where the key is absent
+-- what a walk's count is by its answer, where `reads` index blocks were read before and there are so many levels to
+-- come: 0 with a refusal, whose number is not 0; one a level with a record; no more than that where the key is absent
 pub record Reads (reads level : ℕ) (w : Walked) : Type 0 where
   pub refused : (n : ℕ) → w .found ≡ Refused n → (1 ≤ n) × (w .reads ≡ 0)
   pub found : (b p : ℕ) → w .found ≡ At b p → w .reads ≡ reads + level

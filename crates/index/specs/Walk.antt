@@ -5,7 +5,8 @@ use mathlib.Core.Bool.{cond}
 use mathlib.Core.List.{List}
 use lib.Dec.{eqb}
 use Rattle.header.specs.Refusals.{chainRule, wrongCount, badArgument, indexTree}
-use Rattle.header.specs.Header.{headerOf}
+use Rattle.header.specs.Numbers.{numbersOf}
+use Rattle.header.specs.Answers.{unlessRefused, headerFirst}
 use Rattle.header.specs.declared.Header.{Header}
 use Rattle.blocks.specs.Shape.{shapeOf, hasBlock}
 use Rattle.blocks.specs.Counts.{countIn}
@@ -13,16 +14,16 @@ use Rattle.blocks.specs.declared.Shape.{Shape}
 use Rattle.blocks.specs.declared.count.Count.{Count}
 use Rattle.blocks.specs.declared.count.Count.the-variants.{Records, Bad}
 use Rattle.table.specs.Records.{placesFrom}
-use Rattle.scan.specs.Found.{Lookup, lookupOf}
-use Rattle.scan.specs.Scan.{firstWith, keyFits}
-use Rattle.scan.specs.declared.found.Found.{Found}
-use Rattle.scan.specs.declared.found.Found.the-variants.{Absent, Refused}
+use Rattle.lookup.specs.Found.{Lookup, lookupOf}
+use Rattle.lookup.specs.Sought.{keyFits, firstWith}
+use Rattle.lookup.specs.declared.found.Found.{Found}
+use Rattle.lookup.specs.declared.found.Found.the-variants.{Absent, Refused}
 use Rattle.index.specs.Header.{indexOf}
 use Rattle.index.specs.Entries.{entriesIn, below}
 use Rattle.index.specs.declared.IndexHeader.{IndexHeader}
 use Rattle.index.specs.declared.entries.Below.{Below}
 use Rattle.index.specs.declared.entries.Below.the-variants.{Block, Nothing}
-use Rattle.index.specs.declared.lookup.Walked.{Walked}
+use Rattle.index.specs.declared.walking.Walked.{Walked}
 
 -- what a walk found, after so many index blocks read
 unfoldable pub foundAfter : ℕ → Found → Walked
@@ -46,9 +47,9 @@ unfoldable pub onward : Below → Walked → (ℕ → Walked) → Walked
 onward (Block b) none down = down b
 onward Nothing none down = none
 
--- the walk from block b, after so many index blocks read: at level 0 it is a data block, at a higher level an index block, whose last
--- entry with a key at most the one sought names a block one level lower; with none the key is absent. 27: an index block outside the
--- file, with a bad count or no entry
+-- the walk from block b, after so many index blocks read: at level 0 it is a data block, at a higher level an index
+-- block, whose last entry with a key at most the one sought names a block one level lower; with none the key is
+-- absent. 27: an index block outside the file, with a bad count or no entry
 unfoldable pub walkFrom : List ℕ → Shape → List ℕ → Shape → List ℕ → ℕ → ℕ → ℕ → Walked
 walkFrom t g x gx key zero b reads = inData t g key b reads
 walkFrom t g x gx key (suc level) b reads =
@@ -56,14 +57,17 @@ walkFrom t g x gx key (suc level) b reads =
     (onward (below x gx key b (entriesIn x gx b)) (foundAfter (reads + 1) Absent)
     (λ (next : ℕ). walkFrom t g x gx key level next (reads + 1)))
 
+-- the walk from the root
+abbrev pub fromRoot : List ℕ → Shape → List ℕ → IndexHeader → List ℕ → Walked
+fromRoot t g x i key = walkFrom t g x (i .shape) key (i .levels) (i .root) 0
+
 -- root 0 is absent; else the walk begins at the root
 unfoldable pub walkTree : List ℕ → Shape → List ℕ → IndexHeader → List ℕ → Walked
-walkTree t g x i key =
-    cond (eqb (i .root) 0) (foundAfter 0 Absent) (walkFrom t g x (i .shape) key (i .levels) (i .root) 0)
+walkTree t g x i key = cond (eqb (i .root) 0) (foundAfter 0 Absent) (fromRoot t g x i key)
 
 -- 21 to 26 come before it
 unfoldable pub walkIndex : List ℕ → Header → List ℕ → IndexHeader → List ℕ → Walked
-walkIndex t h x i key = cond (eqb (i .refusal) 0) (walkTree t (shapeOf h) x i key) (refusedWalk (i .refusal))
+walkIndex t h x i key = unlessRefused (i .refusal) refusedWalk (walkTree t (shapeOf h) x i key)
 
 -- 13 comes before those: no key fields, or another key length
 unfoldable pub walkKey : List ℕ → Header → List ℕ → List ℕ → Walked
@@ -71,12 +75,12 @@ walkKey t h x key = cond (keyFits h key) (walkIndex t h x (indexOf x (h .«key_l
 
 -- what walking answers, for any bytes and any key: 1 to 7 come first
 unfoldable pub walkOf : List ℕ → List ℕ → List ℕ → Walked
-walkOf t x key = cond (eqb (headerOf t .refusal) 0) (walkKey t (headerOf t) x key) (refusedWalk (headerOf t .refusal))
+walkOf t x key = headerFirst t refusedWalk (walkKey t (numbersOf t) x key)
 
 -- ---- the same in document 01's numbers: those of every lookup, and the index blocks read
 
-unfoldable pub numbersOf : Walked → Lookup × ℕ
-numbersOf w = (lookupOf (w .found), w .reads)
+unfoldable pub walkedNumbers : Walked → Lookup × ℕ
+walkedNumbers w = (lookupOf (w .found), w .reads)
 
 unfoldable pub walkNumbers : List ℕ → List ℕ → List ℕ → Lookup × ℕ
-walkNumbers t x key = numbersOf (walkOf t x key)
+walkNumbers t x key = walkedNumbers (walkOf t x key)

@@ -2,13 +2,13 @@
 ghost use mathlib.Core.Path.{_≡_};
 ghost use Prim.Native.Nat.{_+_, _≤_};
 ghost use lib.ListN.{length};
-ghost use Rattle.blocks.specs.Shape.{Sound};
-ghost use Rattle.table.specs.Steps.{RunInside};
+ghost use Rattle.blocks.specs.Shape.{RunInside, Sound};
 ghost use Rattle.index.specs.Header.{entryNumbers};
-ghost use Rattle.index.specs.Entries.{below, blockNumber, entriesIn};
-ghost use Rattle.index.specs.Steps.{EntriesInside, descentOf};
+ghost use Rattle.index.specs.Entries.{EntriesInside, below, blockNumber, entriesIn};
+ghost use Rattle.index.specs.Steps.{descentNumber, descentOf};
 use blocks::Count;
 use blocks::Shape;
+use header::refusal;
 
 // The top bit of a number of 16 bits, which an entry has complemented.
 const TOP_BIT: u64 = 32768;
@@ -21,10 +21,23 @@ pub enum Below {
     Nothing,
 }
 
-// What an index block answers to a key; it is refused where it is outside the file, has a bad count or no entry.
+// What an index block answers to a key, or its refusal's number: it may be outside the file, have a bad count or no
+// entry.
 pub enum Descent {
     Read(Below),
-    Refused,
+    Refused(u8),
+}
+
+impl Descent {
+    // The refusal's number; 0 where the block was read.
+    pub fn number(self) -> u8
+        ensures { λ r. ⌜ r ≡ descentNumber self ⌝ }
+    {
+        match self {
+            Descent::Read(_) => refusal::ACCEPTED,
+            Descent::Refused(number) => number,
+        }
+    }
 }
 
 // How many entries an index block has; 0 too where it is outside the file or its count is bad. A helper: its
@@ -77,7 +90,7 @@ pub fn descend(x: &[u8], shape: Shape, block: usize, key: &[u8]) -> Descent
 {
     let count = entries_in(x, shape, block);
     if count == 0 {
-        return Descent::Refused;
+        return Descent::Refused(refusal::INDEX_TREE);
     }
     Descent::Read(find_below(x, shape, block, count, key))
 }

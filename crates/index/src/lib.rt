@@ -1,13 +1,13 @@
 // The index file of a table: index rules 21 to 26 in one call, and the walk from its root to a record.
 mod entries;
-mod lookup;
 mod rules;
 mod stored;
+mod walking;
 
 pub use entries::block_named;
 pub use entries::entries_in;
-pub use lookup::Walked;
-pub use lookup::walk;
+pub use walking::Walked;
+pub use walking::walk;
 ghost use mathlib.Core.Path.{_≡_};
 ghost use Prim.Native.Nat.{_≤_};
 ghost use Rattle.header.specs.Header.{mostUnits};
@@ -29,8 +29,8 @@ pub struct IndexHeader {
 
 // The header of an index to a table with keys of this length: the first of 21, 22, 23, 25 and 26 that any bytes
 // break, or the header's numbers.
-pub fn read(index: &[u8], key: u16) -> IndexHeader
-    ensures { λ r. ⌜ r ≡ indexOf (now (index .entry)) key ⌝ }
+pub fn read(index: &[u8], key_length: u16) -> IndexHeader
+    ensures { λ r. ⌜ r ≡ indexOf (now (index .entry)) «key_length» ⌝ }
 {
     if index.len() < rules::LEAST_LENGTH {
         return refused(refusal::INDEX_TOO_SHORT);
@@ -42,7 +42,7 @@ pub fn read(index: &[u8], key: u16) -> IndexHeader
     if !header::known_version(s.version) {
         return refused(refusal::INDEX_VERSION);
     }
-    if !rules::limits_kept(s, key) {
+    if !rules::limits_kept(s, key_length) {
         return refused(refusal::INDEX_LIMIT);
     }
     if !header::is_length_right(index.len(), s.header_size, s.blocks, s.units) {

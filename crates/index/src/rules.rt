@@ -34,12 +34,12 @@ fn root_right(s: Stored) -> bool
 }
 
 // Rule 25, for keys of a length.
-pub fn limits_kept(s: Stored, key: u16) -> bool
-    ensures { λ r. ⌜ r ≡ limitsKept key s ⌝ }
+pub fn limits_kept(s: Stored, key_length: u16) -> bool
+    ensures { λ r. ⌜ r ≡ limitsKept «key_length» s ⌝ }
 {
     let block = header::block_size(s.units);
     let size = s.record_size as u32;
-    (size == key as u32 + ENTRY_NUMBERS)
+    (size == key_length as u32 + ENTRY_NUMBERS)
         & (LEAST_HEADER <= s.header_size)
         & (1 <= s.units)
         & (s.units <= header::MOST_UNITS)

@@ -18,14 +18,10 @@ use Rattle.cell.specs.declared.value.Value.the-variants as Val
 use Rattle.cell.specs.declared.value.Cell.{Cell}
 use Rattle.cell.specs.declared.value.Cell.the-variants.{Is, Refused}
 use Rattle.cell.proofs.SignedCasts.{shift}
-use Rattle.listing.specs.Text.{decimal, minus, signedText, hexText}
+use Rattle.buffer.specs.Text.{decimal, minus, signedText, shiftedText, hexText}
+use Rattle.buffer.proofs.TextLaws.{shifted-plain, shifted-minus}
 use Rattle.listing.specs.Listing.{bang, letter, cellText}
-use Rattle.listing.specs.Steps.{Printable, PrintableCell, shiftedText}
-use Rattle.listing.proofs.TextLaws.{shifted-plain, shifted-minus}
-
--- the text of a value
-abbrev pub textOf : List ℕ → Value → List ℕ
-textOf t v = cellText (0, contentOf t v)
+use Rattle.listing.specs.Steps.{Printable, PrintableCell, valueText}
 
 -- a signed number is what it is with `top` added
 pub shifted-is : (top : ℕ) (z : ℤ) → mag z < top → shiftedText top (shift top z) ≡ signedText z
@@ -40,31 +36,32 @@ shifted-is top (negsuc n) l =
 -- ---- case by case
 
 module _ (t : List ℕ) (v : Value) where
-  pub blank-text : v ≡ Val.Blank → [] ≡ textOf t v
+  pub blank-text : v ≡ Val.Blank → [] ≡ valueText t v
   unfolding cellText contentOf
   blank-text e = rw e
 
-  pub short-text : (z : ℤ) (piece : List ℕ) → v ≡ Val.Short z → piece ≡ signedText z → piece ≡ textOf t v
+  pub short-text : (z : ℤ) (piece : List ℕ) → v ≡ Val.Short z → piece ≡ signedText z → piece ≡ valueText t v
   unfolding cellText contentOf
   short-text z piece e l = rw e l
 
-  pub long-text : (z : ℤ) (piece : List ℕ) → v ≡ Val.Long z → piece ≡ signedText z → piece ≡ textOf t v
+  pub long-text : (z : ℤ) (piece : List ℕ) → v ≡ Val.Long z → piece ≡ signedText z → piece ≡ valueText t v
   unfolding cellText contentOf
   long-text z piece e l = rw e l
 
-  pub date-text : (d : ℕ) → v ≡ Val.Date d → decimal d ≡ textOf t v
+  pub date-text : (d : ℕ) → v ≡ Val.Date d → decimal d ≡ valueText t v
   unfolding cellText contentOf
   date-text d e = rw e
 
-  pub number-text : (x : Float) → v ≡ Val.Number x → hexText (toBits binary64 x) ≡ textOf t v
+  pub number-text : (x : Float) → v ≡ Val.Number x → hexText (toBits binary64 x) ≡ valueText t v
   unfolding cellText contentOf
   number-text x e = rw e
 
-  pub logical-text : (b : Bool) (n : ℕ) → v ≡ Val.Logical b → n ≡ letter b → n ∷ [] ≡ textOf t v
+  pub logical-text : (b : Bool) (n : ℕ) → v ≡ Val.Logical b → n ≡ letter b → n ∷ [] ≡ valueText t v
   unfolding cellText contentOf
   logical-text b n e l = rw (e, l)
 
-  pub part-text : (start len : ℕ) → v ≡ Val.Text start len → start + len ≤ length t → range t start len ≡ textOf t v
+  pub part-text : (start len : ℕ) → v ≡ Val.Text start len → start + len ≤ length t
+      → range t start len ≡ valueText t v
   unfolding cellText contentOf
   part-text start len e l = rw (e, le-leb (start + len) (length t) l)
 
@@ -82,7 +79,7 @@ module _ (t : List ℕ) (v : Value) where
 -- ---- a cell
 
 module _ (t : List ℕ) (c : Cell) where
-  pub value-text : (v : Value) → c ≡ Is v → textOf t v ≡ cellText (answerOf t c)
+  pub value-text : (v : Value) → c ≡ Is v → valueText t v ≡ cellText (answerOf t c)
   unfolding answerOf
   value-text v e = rw e
 

@@ -1,20 +1,23 @@
 -- The whole listing: the first line, and then the line of each record that a cursor comes to. Assumes nothing.
 use Prim.Native.Nat.{ℕ}
-use mathlib.Core.Path.{_≡_, refl, sym, ap}
+use mathlib.Core.Path.{_≡_, sym, ap, _∙_}
 use mathlib.Core.Bool.{Bool, true, false, cond}
 use mathlib.Core.List.{List, _++_, append-nil}
 use native.Mathlib.Omega.{arith}
 use lib.Dec.{ltb}
 use lib.ListN.{length}
-use borrow.Author.Tests.{eq-eqb, ne-eqb}
+use Rattle.header.specs.Refusals.{shortBuffer}
 use Rattle.header.specs.Header.{mostBlocks}
-use Rattle.table.specs.Records.{Position}
+use Rattle.header.specs.Numbers.{numbersOf}
+use Rattle.header.proofs.VerdictLaws.{unless-kept, unless-refused}
+use Rattle.table.specs.Records.{Position, recordsOf}
 use Rattle.table.specs.Table.{tableAnswer}
 use Rattle.table.proofs.RuleLaws.{accepted-table}
 use Rattle.cursor.specs.Cursor.{startOf}
 use Rattle.cursor.specs.Rules.{Gives}
 use Rattle.cursor.proofs.Stepping.{stepping}
-use Rattle.listing.specs.Listing.{mostBytes, linesOf, listAnswer, headOf, refusedText, listed, listedCount, listingOf}
+use Rattle.listing.specs.Listing.{mostBytes, linesOf, listAnswer, headOf, refusedText}
+use Rattle.listing.specs.Listing.{listed, listedCount, listingOf}
 
 module _ (t : List ℕ) where
   -- a table that is listed is accepted
@@ -22,7 +25,7 @@ module _ (t : List ℕ) where
   unfolding listAnswer
   accepted-answer e = go (ltb mostBytes (length t)) e
     where
-      go : (b : Bool) → cond b 14 (tableAnswer t mostBlocks) ≡ 0 → tableAnswer t mostBlocks ≡ 0
+      go : (b : Bool) → cond b shortBuffer (tableAnswer t mostBlocks) ≡ 0 → tableAnswer t mostBlocks ≡ 0
       go true z = absurd (omega (arith, z))
       go false z = z
 
@@ -31,15 +34,25 @@ module _ (t : List ℕ) where
   unfolding listed listedCount
   listed-come e =
       let a = accepted-answer e in
-      rw (eq-eqb (listAnswer t) 0 e) (stepping t mostBlocks a .gives, accepted-table t mostBlocks a .records)
+      rw (
+        unless-kept (listAnswer t) _ (recordsOf t (numbersOf t)) e,
+        unless-kept (listAnswer t) _ (numbersOf t .records) e,
+      )
+      (stepping t mostBlocks a .gives, accepted-table t mostBlocks a .records)
 
   -- so the first line and then the lines of the records that come are the listing
-  pub listing-printed : (ps : List Position) → listAnswer t ≡ 0 → Gives t (startOf t) ps → headOf t ++ linesOf t ps ≡ listingOf t
+  pub listing-printed : (ps : List Position) → listAnswer t ≡ 0 → Gives t (startOf t) ps
+      → headOf t ++ linesOf t ps ≡ listingOf t
   unfolding listingOf listed
   listing-printed ps e g =
-      rw (eq-eqb (listAnswer t) 0 e) (ap (λ (x : List Position). headOf t ++ linesOf t x) (stepping t mostBlocks (accepted-answer e) .exactly ps g))
+      let only = stepping t mostBlocks (accepted-answer e) .exactly ps g in
+      let all = sym (unless-kept (listAnswer t) _ (recordsOf t (numbersOf t)) e) in
+      ap (λ (x : List Position). headOf t ++ linesOf t x) (only ∙ all)
 
   -- of any other table the first line is all
   pub listing-refused : (listAnswer t ≡ 0 → ⊥) → (refusedText (listAnswer t) ≡ listingOf t) × (listedCount t ≡ 0)
   unfolding listingOf listed listedCount headOf linesOf
-  listing-refused ne = rw (ne-eqb (listAnswer t) 0 ne) (sym (append-nil (refusedText (listAnswer t))), refl)
+  listing-refused ne =
+      let n = listAnswer t in
+      rw (unless-refused n refusedText _ ne, unless-refused n _ (recordsOf t (numbersOf t)) ne)
+      (sym (append-nil (refusedText n)), unless-refused n _ (numbersOf t .records) ne)

@@ -2,16 +2,20 @@
 use Prim.Native.Nat.{ℕ, zero, suc}
 use mathlib.Core.Bool.{Bool, cond}
 use mathlib.Core.List.{List, [], _∷_, _++_}
-use lib.Dec.{eqb, ltb}
+use lib.Dec.{ltb}
 use lib.Ieee.{binary64, toBits}
 use lib.ListN.{length}
 use Rattle.header.specs.Refusals.{shortBuffer}
-use Rattle.header.specs.Header.{headerOf, mostBlocks}
+use Rattle.header.specs.Header.{mostBlocks}
+use Rattle.header.specs.Numbers.{numbersOf}
+use Rattle.header.specs.Answers.{unlessRefused, headerFirst}
+use Rattle.header.specs.declared.Header.{Header}
 use Rattle.cell.specs.Values.{Content, nothing, blank, short, long, date, number, logical, text}
-use Rattle.cell.specs.Reading.{readOf}
+use Rattle.cell.specs.Values.{answerOf}
+use Rattle.cell.specs.Reading.{blockCell}
 use Rattle.table.specs.Records.{Position, recordsOf}
 use Rattle.table.specs.Table.{tableAnswer}
-use Rattle.listing.specs.Text.{decimal, signedText, hexText}
+use Rattle.buffer.specs.Text.{decimal, signedText, hexText}
 
 -- ---- ASCII: bar, exclamation mark, dot, end of line; T and F; `fields `, ` key `, ` records `, `refused `
 
@@ -44,8 +48,8 @@ refusedWord = 114 ∷ 101 ∷ 102 ∷ 117 ∷ 115 ∷ 101 ∷ 100 ∷ 32 ∷ []
 
 -- ---- a cell
 
--- a cell as document 01's number and value: no value is a refusal, an exclamation mark and its number; blank is nothing, a number the
--- 16 hex digits of the double, a date its day number, a logical T or F, a text its bytes
+-- a cell as document 01's number and value: no value is a refusal, an exclamation mark and its number; blank is
+-- nothing, a number the 16 hex digits of the double, a date its day number, a logical T or F, a text its bytes
 unfoldable pub cellText : ℕ × Content → List ℕ
 cellText (refusal, nothing) = bang ∷ decimal refusal
 cellText (refusal, blank) = []
@@ -59,13 +63,21 @@ cellText (refusal, text bytes) = bytes
 -- ---- a record's line
 
 -- the first n cells of the record at a block and a place, each after a bar
-unfoldable pub cellsText : List ℕ → ℕ → ℕ → ℕ → List ℕ
-cellsText t b p zero = []
-cellsText t b p (suc n) = cellsText t b p n ++ bar ∷ cellText (readOf t b p (suc n))
+unfoldable pub cellsText : List ℕ → Header → ℕ → ℕ → ℕ → List ℕ
+cellsText t h b p zero = []
+cellsText t h b p (suc n) = cellsText t h b p n ++ bar ∷ cellText (answerOf t (blockCell t h b p (suc n)))
+
+-- every cell of it
+abbrev pub recordText : List ℕ → Header → ℕ → ℕ → List ℕ
+recordText t h b p = cellsText t h b p (h .fields)
+
+-- the cells of a line: a table that breaks one of 1 to 7 has none
+unfoldable pub lineCells : List ℕ → ℕ → ℕ → List ℕ
+lineCells t b p = headerFirst t (λ (number : ℕ). []) (recordText t (numbersOf t) b p)
 
 -- block.place, then each cell
 unfoldable pub lineOf : List ℕ → ℕ → ℕ → List ℕ
-lineOf t b p = decimal b ++ dot ∷ [] ++ decimal p ++ cellsText t b p (headerOf t .fields) ++ newline ∷ []
+lineOf t b p = decimal b ++ dot ∷ [] ++ decimal p ++ lineCells t b p ++ newline ∷ []
 
 -- the lines of some records
 unfoldable pub linesOf : List ℕ → List Position → List ℕ
@@ -84,7 +96,8 @@ listAnswer t = cond (ltb mostBytes (length t)) shortBuffer (tableAnswer t mostBl
 
 -- the head line
 unfoldable pub headText : ℕ → ℕ → ℕ → List ℕ
-headText fields keys records = fieldsWord ++ decimal fields ++ keyWord ++ decimal keys ++ recordsWord ++ decimal records ++ newline ∷ []
+headText fields keys records =
+    fieldsWord ++ decimal fields ++ keyWord ++ decimal keys ++ recordsWord ++ decimal records ++ newline ∷ []
 
 -- the line of a refusal
 unfoldable pub refusedText : ℕ → List ℕ
@@ -92,15 +105,17 @@ refusedText refusal = refusedWord ++ decimal refusal ++ newline ∷ []
 
 -- the first line
 unfoldable pub headOf : List ℕ → List ℕ
-headOf t = cond (eqb (listAnswer t) 0) (headText (headerOf t .fields) (headerOf t .«key_fields») (headerOf t .records)) (refusedText (listAnswer t))
+headOf t =
+    unlessRefused (listAnswer t) refusedText
+    (headText (numbersOf t .fields) (numbersOf t .«key_fields») (numbersOf t .records))
 
 -- the records that are listed: none of a refused table
 unfoldable pub listed : List ℕ → List Position
-listed t = cond (eqb (listAnswer t) 0) (recordsOf t (headerOf t)) []
+listed t = unlessRefused (listAnswer t) (λ (number : ℕ). []) (recordsOf t (numbersOf t))
 
 -- how many they are
 unfoldable pub listedCount : List ℕ → ℕ
-listedCount t = cond (eqb (listAnswer t) 0) (headerOf t .records) 0
+listedCount t = unlessRefused (listAnswer t) (λ (number : ℕ). 0) (numbersOf t .records)
 
 -- what is printed of any bytes
 unfoldable pub listingOf : List ℕ → List ℕ

@@ -1,30 +1,24 @@
 -- What the functions that put a line together say of each other. Definitions only.
-use Prim.Native.Nat.{ℕ, _+_, _-_, _≤_}
+use Prim.Native.Nat.{ℕ, _+_, _≤_}
 use mathlib.Core.Path.{_≡_}
-use mathlib.Core.Bool.{true, cond}
+use mathlib.Core.Bool.{true}
 use mathlib.Core.List.{List, _∷_}
-use lib.Dec.{leb}
 use lib.ListN.{length}
 use lib.Ieee.Scale.{finite}
-use lib.Seq.{sets}
+use Rattle.cell.specs.Values.{contentOf, answerOf}
 use Rattle.cell.specs.declared.value.Value.{Value}
 use Rattle.cell.specs.declared.value.Value.the-variants as Val
 use Rattle.cell.specs.declared.value.Cell.{Cell}
 use Rattle.cell.specs.declared.value.Cell.the-variants.{Is, Refused}
-use Rattle.listing.specs.Text.{decimal, minus}
+use Rattle.listing.specs.Listing.{bar, cellText}
 
--- a piece put into a buffer at an offset, with the buffer and the offset after it
-pub record Wrote (before : List ℕ) (at : ℕ) (piece after : List ℕ) (end : ℕ) : Type 0 where
-  pub puts : after ≡ sets before at piece
-  pub ends : end ≡ at + length piece
+-- the text of a value
+abbrev pub valueText : List ℕ → Value → List ℕ
+valueText t v = cellText (0, contentOf t v)
 
--- the buffer has room for a piece at an offset
-pub record Room (buffer : List ℕ) (at : ℕ) (piece : List ℕ) : Type 0 where
-  pub fits : at + length piece ≤ length buffer
-
--- a signed number by what it is with `top` added
-unfoldable pub shiftedText : ℕ → ℕ → List ℕ
-shiftedText top n = cond (leb top n) (decimal (n - top)) (minus ∷ decimal (top - n))
+-- a bar and the text of a cell
+abbrev pub barredText : List ℕ → Cell → List ℕ
+barredText t c = bar ∷ cellText (answerOf t c)
 
 -- a value that a cell of these bytes can be: a finite number, a text inside them
 unfoldable pub Printable : List ℕ → Value → Type 0

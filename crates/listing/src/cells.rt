@@ -2,19 +2,18 @@
 // The module is private: its functions are helpers of `listing::line`, which meets what they require.
 ghost use mathlib.Core.Path.{_≡_};
 ghost use mathlib.Core.Bool.{true};
-ghost use mathlib.Core.List.{_∷_};
 ghost use lib.Ieee.{binary64, toBits};
 ghost use lib.Ieee.Scale.{finite};
 ghost use Rattle.header.specs.Rules.{Accepted};
-ghost use Rattle.cell.specs.Values.{answerOf, contentOf};
-ghost use Rattle.listing.specs.Text.{hexText, signedText};
-ghost use Rattle.listing.specs.Listing.{bar, cellText, cellsText, letter};
-ghost use Rattle.listing.specs.Steps.{Printable, PrintableCell, Room, Wrote, shiftedText};
-use crate::put::put_byte;
-use crate::put::put_bytes;
-use crate::put::put_decimal;
-use crate::put::put_hex;
-use crate::put::put_shifted;
+ghost use Rattle.buffer.specs.Pieces.{Room, Wrote};
+ghost use Rattle.buffer.specs.Text.{hexText, shiftedText, signedText};
+ghost use Rattle.listing.specs.Listing.{letter, recordText};
+ghost use Rattle.listing.specs.Steps.{Printable, PrintableCell, barredText, valueText};
+use buffer::put_byte;
+use buffer::put_bytes;
+use buffer::put_decimal;
+use buffer::put_hex;
+use buffer::put_shifted;
 use cell::Cell;
 use cell::Value;
 use header::Header;
@@ -40,7 +39,8 @@ fn long_shifted(z: i32) -> u64
 
 // A finite number: the 16 hex digits of its bits.
 fn put_number(out: &mut [u8], at: usize, x: f64) -> usize
-    requires { ⌜ Room (now out) at (hexText (toBits binary64 x)) × (finite x ≡ true) ⌝ }
+    requires { ⌜ Room (now out) at (hexText (toBits binary64 x)) ⌝ }
+    requires { ⌜ finite x ≡ true ⌝ }
     ensures { λ r. ⌜ Wrote (now (out .entry)) at (hexText (toBits binary64 x)) (now (out .exit)) r ⌝ }
 {
     put_hex(out, at, f64::to_bits(x))
@@ -55,8 +55,9 @@ fn letter_of(b: bool) -> u8
 
 // A value, by its kind.
 fn put_value(out: &mut [u8], at: usize, table: &[u8], value: Value) -> usize
-    requires { ⌜ Room (now out) at (cellText (0, contentOf (now table) value)) × Printable (now table) value ⌝ }
-    ensures { λ r. ⌜ Wrote (now (out .entry)) at (cellText (0, contentOf (now (table .entry)) value)) (now (out .exit)) r ⌝ }
+    requires { ⌜ Room (now out) at (valueText (now table) value) ⌝ }
+    requires { ⌜ Printable (now table) value ⌝ }
+    ensures { λ r. ⌜ Wrote (now (out .entry)) at (valueText (now (table .entry)) value) (now (out .exit)) r ⌝ }
 {
     match value {
         Value::Blank => at,
@@ -71,8 +72,9 @@ fn put_value(out: &mut [u8], at: usize, table: &[u8], value: Value) -> usize
 
 // A bar and a cell: its value, or an exclamation mark and the number of its refusal.
 fn put_cell(out: &mut [u8], at: usize, table: &[u8], cell: Cell) -> usize
-    requires { ⌜ Room (now out) at (bar ∷ cellText (answerOf (now table) cell)) × PrintableCell (now table) cell ⌝ }
-    ensures { λ r. ⌜ Wrote (now (out .entry)) at (bar ∷ cellText (answerOf (now (table .entry)) cell)) (now (out .exit)) r ⌝ }
+    requires { ⌜ Room (now out) at (barredText (now table) cell) ⌝ }
+    requires { ⌜ PrintableCell (now table) cell ⌝ }
+    ensures { λ r. ⌜ Wrote (now (out .entry)) at (barredText (now (table .entry)) cell) (now (out .exit)) r ⌝ }
 {
     let behind = put_byte(out, at, b'|');
     match cell {
@@ -87,22 +89,23 @@ fn put_cell(out: &mut [u8], at: usize, table: &[u8], cell: Cell) -> usize
 // Every cell of the record at a block and a place of a table whose header is accepted.
 pub fn put_cells(
     out: &mut [u8],
-    from: usize,
+    at: usize,
     table: &[u8],
     h: Header,
     block: usize,
     place: usize,
 ) -> usize
-    requires { ⌜ Room (now out) from (cellsText (now table) block place (h .fields)) × (h .refusal ≡ 0) × Accepted (now table) h ⌝ }
-    ensures { λ r. ⌜ Wrote (now (out .entry)) from (cellsText (now (table .entry)) block place (h .fields)) (now (out .exit)) r ⌝ }
+    requires { ⌜ Room (now out) at (recordText (now table) h block place) ⌝ }
+    requires { ⌜ Accepted (now table) h ⌝ }
+    ensures { λ r. ⌜ Wrote (now (out .entry)) at (recordText (now (table .entry)) h block place) (now (out .exit)) r ⌝ }
 {
     let fields = h.fields as usize;
-    let mut at = from;
+    let mut end = at;
     let mut field: usize = 0;
     while field < fields {
         field += 1;
         let cell = cell::read_in(table, h, block, place, field);
-        at = put_cell(out, at, table, cell);
+        end = put_cell(out, end, table, cell);
     }
-    at
+    end
 }

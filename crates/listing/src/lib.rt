@@ -1,19 +1,15 @@
 // The listing of a table: its first line, and a line for each record. What a program prints of any bytes is `head` and,
 // for each record in chain order, `line`.
 mod cells;
-mod put;
 
 ghost use mathlib.Core.Path.{_≡_};
-ghost use mathlib.Core.List.{_++_};
-ghost use lib.ListN.{drop, length};
 ghost use Rattle.io.specs.Counts.{Counts};
+ghost use Rattle.buffer.specs.Pieces.{AtFront};
 ghost use Rattle.listing.specs.Listing.{headOf, headText, lineOf, listedCount, refusedText};
-ghost use Rattle.listing.specs.Steps.{Wrote};
+use buffer::put_byte;
+use buffer::put_bytes;
+use buffer::put_decimal;
 use header::refusal;
-use put::put_byte;
-use put::put_bytes;
-use put::put_decimal;
-use table::check_blocks;
 
 // The longest table that is listed, in bytes.
 pub const MOST_BYTES: usize = 65536;
@@ -31,20 +27,18 @@ pub struct HeadLine {
 // or the refusal, 14 for a table of more than MOST_BYTES, else the table check's. Behind the line no byte is touched.
 pub fn head(table: &[u8], out: &mut [u8; 65536]) -> HeadLine
     ensures { λ r. ⌜ Counts (r .len) (now (out .exit)) ⌝ }
-    ensures { λ r. ⌜ (r .len ≡ length (headOf (now (table .entry)))) × (r .records ≡ listedCount (now (table .entry))) × (now (out .exit) ≡ headOf (now (table .entry)) ++ drop (length (headOf (now (table .entry)))) (now (out .entry))) ⌝ }
+    ensures { λ r. ⌜ AtFront (now (out .entry)) (headOf (now (table .entry))) (now (out .exit)) (r .len) ⌝ }
+    ensures { λ r. ⌜ r .records ≡ listedCount (now (table .entry)) ⌝ }
 {
     if MOST_BYTES < table.len() {
         return refused(refusal::SHORT_BUFFER, out);
     }
-    let h = header::read(table);
-    if h.refusal != refusal::ACCEPTED {
-        return refused(h.refusal, out);
-    }
     let mut marks = [0u8; MARKS];
-    let answer = check_blocks(table, h, &mut marks);
-    if answer != refusal::ACCEPTED {
-        return refused(answer, out);
+    let answer = table::read(table, &mut marks);
+    if answer.refusal != refusal::ACCEPTED {
+        return refused(answer.refusal, out);
     }
+    let h = answer.header;
     let len = put_head(out, h.fields, h.key_fields, h.records);
     HeadLine {
         len,
@@ -54,7 +48,9 @@ pub fn head(table: &[u8], out: &mut [u8; 65536]) -> HeadLine
 
 // The line of a refusal.
 fn refused(number: u8, out: &mut [u8; 65536]) -> HeadLine
-    ensures { λ r. ⌜ (length (now (out .entry)) ≡ 65536) × (r .records ≡ 0) × Wrote (now (out .entry)) 0 (refusedText number) (now (out .exit)) (r .len) ⌝ }
+    ensures { λ r. ⌜ Counts (r .len) (now (out .exit)) ⌝ }
+    ensures { λ r. ⌜ AtFront (now (out .entry)) (refusedText number) (now (out .exit)) (r .len) ⌝ }
+    ensures { λ r. ⌜ r .records ≡ 0 ⌝ }
 {
     let number_at = put_bytes(out, 0, b"refused ");
     let end = put_decimal(out, number_at, number as u64);
@@ -64,7 +60,8 @@ fn refused(number: u8, out: &mut [u8; 65536]) -> HeadLine
 
 // The head line.
 fn put_head(out: &mut [u8; 65536], fields: u16, keys: u16, records: u32) -> usize
-    ensures { λ r. ⌜ (length (now (out .entry)) ≡ 65536) × Wrote (now (out .entry)) 0 (headText fields keys records) (now (out .exit)) r ⌝ }
+    ensures { λ r. ⌜ Counts r (now (out .exit)) ⌝ }
+    ensures { λ r. ⌜ AtFront (now (out .entry)) (headText fields keys records) (now (out .exit)) r ⌝ }
 {
     let fields_at = put_bytes(out, 0, b"fields ");
     let fields_end = put_decimal(out, fields_at, fields as u64);
@@ -79,15 +76,16 @@ fn put_head(out: &mut [u8; 65536], fields: u16, keys: u16, records: u32) -> usiz
 // each cell after a bar. Behind the line no byte is touched.
 pub fn line(table: &[u8], block: u16, place: u16, out: &mut [u8; 65536]) -> usize
     ensures { λ r. ⌜ Counts r (now (out .exit)) ⌝ }
-    ensures { λ r. ⌜ (r ≡ length (lineOf (now (table .entry)) block place)) × (now (out .exit) ≡ lineOf (now (table .entry)) block place ++ drop (length (lineOf (now (table .entry)) block place)) (now (out .entry))) ⌝ }
+    ensures { λ r. ⌜ AtFront (now (out .entry)) (lineOf (now (table .entry)) block place) (now (out .exit)) r ⌝ }
 {
-    let h = header::read(table);
+    let answer = header::read(table);
     let block_end = put_decimal(out, 0, block as u64);
     let place_at = put_byte(out, block_end, b'.');
     let cells_at = put_decimal(out, place_at, place as u64);
-    if h.refusal != refusal::ACCEPTED {
+    if answer.refusal != refusal::ACCEPTED {
         return put_byte(out, cells_at, b'\n');
     }
+    let h = answer.header;
     let end = cells::put_cells(out, cells_at, table, h, block as usize, place as usize);
     put_byte(out, end, b'\n')
 }

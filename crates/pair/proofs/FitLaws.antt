@@ -1,5 +1,5 @@
--- Entries that fit: two lists of them by the test of their equality, an entry's key, and the entries of a block that fits.
--- Assumes nothing.
+-- Entries that fit: two lists of them by the test of their equality, an entry's key, and the entries of a block that
+-- fits. Assumes nothing.
 use Prim.Native.Nat.{ℕ, zero, suc}
 use mathlib.Core.Path.{_≡_, refl, ap₂}
 use mathlib.Core.Bool.{Bool, true, false, not, _&&_, false≢true}
@@ -40,7 +40,8 @@ entries-gives (d ∷ ds) (e ∷ es) s =
 entries-self : (us : List Entry) → sameEntries us us ≡ true
 unfolding sameEntries
 entries-self [] = refl
-entries-self (e ∷ es) = join (join (eq-eqb (e .block) (e .block) refl) (same-takes (e .key) (e .key) refl)) (entries-self es)
+entries-self (e ∷ es) =
+    join (join (eq-eqb (e .block) (e .block) refl) (same-takes (e .key) (e .key) refl)) (entries-self es)
 
 pub entries-takes : (us vs : List Entry) → us ≡ vs → sameEntries us vs ≡ true
 entries-takes us vs e = rw e (entries-self vs)
@@ -67,11 +68,14 @@ module _ (x : List ℕ) (g : Shape) (n : ℕ) where
   abbrev pub under : ℕ → ℕ → ℕ → List Entry
   under level b i = leaves x g n level (entryAt x g n b i)
 
-  pub entry-fits : (level b i : ℕ) → fitting level b i ≡ true → (fits x g n level (entryBlock x g n b i) ≡ true) × (keyRight x g n level (entryAt x g n b i) ≡ true)
-  entry-fits level b i f = both {a = fits x g n level (entryBlock x g n b i)} {b = keyRight x g n level (entryAt x g n b i)} f
+  pub entry-fits : (level b i : ℕ) → fitting level b i ≡ true →
+      (fits x g n level (entryBlock x g n b i) ≡ true) × (keyRight x g n level (entryAt x g n b i) ≡ true)
+  entry-fits level b i f =
+      both {a = fits x g n level (entryBlock x g n b i)} {b = keyRight x g n level (entryAt x g n b i)} f
 
   -- a block that fits has entries, and each of them fits
-  pub block-fits : (level b : ℕ) → fits x g n (suc level) b ≡ true → (eqb (entriesIn x g b) 0 ≡ false) × (each (fitting level b) (entriesIn x g b) ≡ true)
+  pub block-fits : (level b : ℕ) → fits x g n (suc level) b ≡ true →
+      (eqb (entriesIn x g b) 0 ≡ false) × (each (fitting level b) (entriesIn x g b) ≡ true)
   unfolding fits
   block-fits level b f =
       let p = both {a = not (eqb (entriesIn x g b) 0)} {b = each (fitting level b) (entriesIn x g b)} f in

@@ -1,8 +1,9 @@
--- Demand 2 for pairs: with a mark for each block of the table the answer is 0 exactly when `PairRules` holds. Assumes nothing.
+-- Demand 2 for pairs: with a mark for each block of the table the answer is 0 exactly when `PairRules` holds. Assumes
+-- nothing.
 use Prim.Native.Nat.{ℕ, _≤_}
 use mathlib.Core.Path.{_≡_}
 use mathlib.Core.List.{List}
-use Rattle.header.specs.Header.{headerOf}
+use Rattle.header.specs.Numbers.{numbersOf}
 use Rattle.table.proofs.RuleLaws.{table-gives, table-takes}
 use Rattle.index.specs.Header.{indexOf}
 use Rattle.index.proofs.AcceptedLaws.{index-gives, index-takes}
@@ -15,7 +16,7 @@ module _ (t x : List ℕ) (room : ℕ) where
   -- an accepted pair meets the rules
   pub pair-gives : pairAnswer t x room ≡ 0 → PairRules t x
   pair-gives e =
-      let h = headerOf t in
+      let h = numbersOf t in
       let p = pair-parts t x room e in
       record {
         table = table-gives t room (p .0);
@@ -25,7 +26,8 @@ module _ (t x : List ℕ) (room : ℕ) where
       }
 
   -- a pair that meets the rules is accepted, where the mark buffer has a byte for each block of the table
-  pub pair-takes : PairRules t x → headerOf t .blocks ≤ room → pairAnswer t x room ≡ 0
+  pub pair-takes : PairRules t x → numbersOf t .blocks ≤ room → pairAnswer t x room ≡ 0
   pair-takes r l =
-      let h = headerOf t in
-      pair-fits t x room (table-takes t room (r .table) l) (r .keyed) (index-takes x (h .«key_length») (r .index)) (tree-takes t h x (indexOf x (h .«key_length»)) (r .tree))
+      let h = numbersOf t in
+      pair-fits t x room (table-takes t room (r .table) l) (r .keyed) (index-takes x (h .«key_length») (r .index))
+      (tree-takes t h x (indexOf x (h .«key_length»)) (r .tree))

@@ -1,5 +1,5 @@
--- Records whose keys ascend. Of two runs of them, one after the other, the second one's first key tells which of the two can hold a
--- key: the second where that first key is at most the one sought, else the first. Assumes nothing.
+-- Records whose keys ascend. Of two runs of them, one after the other, the second one's first key tells which of the
+-- two can hold a key: the second where that first key is at most the one sought, else the first. Assumes nothing.
 use Prim.Native.Nat.{ℕ, suc, _<_, suc-le-suc}
 use mathlib.Core.Path.{_≡_, refl, sym, ap, _∙_}
 use mathlib.Core.Bool.{Bool, true, false}
@@ -8,14 +8,15 @@ use native.Mathlib.Omega.{arith}
 use lib.ListN.{length, getD}
 use Rattle.words.specs.Order.{isAtMost, order}
 use Rattle.words.specs.declared.Order.the-variants.{Less}
-use Rattle.words.proofs.OrderLaws.{less≢same, at-most, order-refl, same-gives, turned, order-turned, above-less, less-trans}
+use Rattle.words.proofs.OrderLaws.{less≢same, at-most, order-refl, same-gives, turned, order-turned, above-less}
+use Rattle.words.proofs.OrderLaws.{less-trans}
 use Rattle.blocks.specs.declared.Shape.{Shape}
 use Rattle.table.specs.Records.{Position}
 use Rattle.table.specs.Keys.{keyAt}
-use Rattle.scan.specs.Found.{isRecord}
-use Rattle.scan.specs.Scan.{firstWith}
-use Rattle.scan.specs.declared.found.Found.the-variants.{Absent}
-use Rattle.scan.proofs.FirstLaws.{isSought, first-miss}
+use Rattle.lookup.specs.Found.{isRecord}
+use Rattle.lookup.specs.Sought.{isSought, firstWith}
+use Rattle.lookup.specs.declared.found.Found.the-variants.{Absent}
+use Rattle.lookup.proofs.FirstLaws.{first-miss}
 
 -- ---- a property of every element of a list
 
@@ -49,7 +50,8 @@ module _ (t : List ℕ) (g : Shape) (n : ℕ) where
   Ascends (p ∷ ps) = All (Before p) ps × Ascends ps
 
   -- they do where of records at two indexes the earlier has the lesser key
-  pub ascends-takes : (ps : List Position) → ((i j : ℕ) (c d : Position) → i < j → j < length ps → Before (getD ps i c) (getD ps j d)) → Ascends ps
+  pub ascends-takes : (ps : List Position) →
+      ((i j : ℕ) (c d : Position) → i < j → j < length ps → Before (getD ps i c) (getD ps j d)) → Ascends ps
   ascends-takes [] h = tt
   ascends-takes (p ∷ ps) h = (
     all-takes (Before p) ps (λ j d l. h 0 (suc j) p d (omega arith) (suc-le-suc l)),
@@ -57,7 +59,8 @@ module _ (t : List ℕ) (g : Shape) (n : ℕ) where
   )
 
   -- each of two runs ascends, and every record of the first has a lesser key than every one of the second
-  pub ascends-append : (us vs : List Position) → Ascends (us ++ vs) → Ascends us × Ascends vs × All (λ (a : Position). All (Before a) vs) us
+  pub ascends-append : (us vs : List Position) → Ascends (us ++ vs) →
+      Ascends us × Ascends vs × All (λ (a : Position). All (Before a) vs) us
   ascends-append [] vs h = (tt, h, tt)
   ascends-append (a ∷ us) vs h =
       let r = ascends-append us vs (h .1) in
@@ -72,7 +75,13 @@ module _ (t : List ℕ) (g : Shape) (n : ℕ) where
     pub key : keyAt t g n first ≡ f
 
   pub starts-append : (us vs : List Position) (f : List ℕ) → Starts us f → Starts (us ++ vs) f
-  starts-append us vs f s = record { first = s .first; rest = s .rest ++ vs; split = ap (λ (ps : List Position). ps ++ vs) (s .split); key = s .key }
+  starts-append us vs f s =
+      record {
+        first = s .first;
+        rest = s .rest ++ vs;
+        split = ap (λ (ps : List Position). ps ++ vs) (s .split);
+        key = s .key;
+      }
 
 -- ---- the first record with a key
 
@@ -96,7 +105,8 @@ module _ (t : List ℕ) (g : Shape) (key : List ℕ) where
   others-absent (p ∷ ps) h = rw (not-sought p (h .0)) (others-absent ps (h .1))
 
   -- where the key is absent from the second run, the first one decides
-  rest-absent : (us vs : List Position) → firstWith t g key vs ≡ Absent → firstWith t g key (us ++ vs) ≡ firstWith t g key us
+  rest-absent : (us vs : List Position) → firstWith t g key vs ≡ Absent →
+      firstWith t g key (us ++ vs) ≡ firstWith t g key us
   unfolding firstWith
   rest-absent [] vs e = e
   rest-absent (p ∷ us) vs e = rw (rest-absent us vs e)
@@ -104,13 +114,15 @@ module _ (t : List ℕ) (g : Shape) (key : List ℕ) where
   -- a key that is less than one at most the one sought is another
   earlier-other : (a f : List ℕ) → isAtMost (order f key) ≡ true → order a f ≡ Less → a ≡ key → ⊥
   unfolding turned
-  earlier-other a f m l e = at-most (order f key) m (order-turned key f ∙ ap turned (ap (λ (k : List ℕ). order k f) (sym e) ∙ l))
+  earlier-other a f m l e =
+      at-most (order f key) m (order-turned key f ∙ ap turned (ap (λ (k : List ℕ). order k f) (sym e) ∙ l))
 
   -- a key that is greater than the one sought is another
   later-other : (a : List ℕ) → order key a ≡ Less → a ≡ key → ⊥
   later-other a l e = less≢same (sym l ∙ ap (order key) e ∙ order-refl key)
 
-  module _ (us vs : List Position) (f : List ℕ) (ascends : Ascends t g (length key) (us ++ vs)) (starts : Starts t g (length key) vs f) where
+  module _ (us vs : List Position) (f : List ℕ) (ascends : Ascends t g (length key) (us ++ vs))
+      (starts : Starts t g (length key) vs f) where
     -- the first record of the second run
     abbrev p : Position
     p = starts .first
@@ -118,20 +130,31 @@ module _ (t : List ℕ) (g : Shape) (key : List ℕ) where
     -- the second run decides from its first key on
     pub second-run : isAtMost (order f key) ≡ true → firstWith t g key (us ++ vs) ≡ firstWith t g key vs
     unfolding isRecord
-    second-run m = first-miss t g key vs us (ap isRecord (others-absent us (all-map (λ (a : Position). All (Before t g (length key) a) vs) Other us other (ascends-append t g (length key) us vs ascends .2))))
+    second-run m =
+        first-miss t g key vs us (ap isRecord (others-absent us
+        (all-map (λ (a : Position). All (Before t g (length key) a) vs) Other us other
+        (ascends-append t g (length key) us vs ascends .2))))
       where
         other : (a : Position) → All (Before t g (length key) a) vs → Other a
-        other a h = earlier-other (keyAt t g (length key) a) f m (let l = (rw (starts .split) at h) .0 in rw (← starts .key) l)
+        other a h =
+            earlier-other (keyAt t g (length key) a) f m (let l = (rw (starts .split) at h) .0 in rw (← starts .key) l)
 
     -- the first run decides before it
     pub first-run : isAtMost (order f key) ≡ false → firstWith t g key (us ++ vs) ≡ firstWith t g key us
-    first-run m = rest-absent us vs (ap (firstWith t g key) (starts .split) ∙ others-absent (p ∷ starts .rest) (later-other (keyAt t g (length key) p) least, all-map (Before t g (length key) p) Other (starts .rest) other after))
+    first-run m =
+        rest-absent us vs (ap (firstWith t g key) (starts .split)
+        ∙ others-absent (p ∷ starts .rest) (
+          later-other (keyAt t g (length key) p) least,
+          all-map (Before t g (length key) p) Other (starts .rest) other after,
+        ))
       where
         least : order key (keyAt t g (length key) p) ≡ Less
         least = above-less (keyAt t g (length key) p) key (rw (starts .key) m)
 
         other : (a : Position) → Before t g (length key) p a → Other a
-        other a l = later-other (keyAt t g (length key) a) (less-trans key (keyAt t g (length key) p) (keyAt t g (length key) a) least l)
+        other a l =
+            later-other (keyAt t g (length key) a)
+            (less-trans key (keyAt t g (length key) p) (keyAt t g (length key) a) least l)
 
         after : All (Before t g (length key) p) (starts .rest)
         after = (rw (starts .split) at (ascends-append t g (length key) us vs ascends .1)) .0

@@ -1,5 +1,5 @@
--- The rule of a tree by what going down it comes to: root 0 by the number of records, any other root by where the used chain is then.
--- Assumes nothing.
+-- The rule of a tree by what going down it comes to: root 0 by the number of records, any other root by where the
+-- used chain is then. Assumes nothing.
 use Prim.Native.Nat.{ℕ}
 use mathlib.Core.Path.{_≡_, sym, _∙_}
 use mathlib.Core.Bool.{false}
@@ -44,7 +44,9 @@ module _ (t : List ℕ) (h : Header) (x : List ℕ) (i : IndexHeader) (p : Paire
 
     tree-by : (i .root ≡ 0 → ⊥) → treeFits t h x i ≡ isEnd t g (h .«key_length») down
     unfolding treeFits rootFits shapeOf
-    tree-by ne = rw (ne-eqb (i .root) 0 ne) (sym (tree-ends t x s (i .levels) (i .root) (h .first) (descendable .followed .chain) ∙ rw e))
+    tree-by ne =
+        rw (ne-eqb (i .root) 0 ne) (sym (tree-ends t x s (i .levels) (i .root) (h .first) (descendable .followed .chain)
+        ∙ rw e))
 
     pub tree-unfit : (i .root ≡ 0 → ⊥) → down ≡ Unfit → treeFits t h x i ≡ false
     tree-unfit ne u = tree-by ne ∙ rw u
@@ -53,4 +55,9 @@ module _ (t : List ℕ) (h : Header) (x : List ℕ) (i : IndexHeader) (p : Paire
     tree-next ne d u = tree-by ne ∙ rw u
 
     pub next-followed : (d : ℕ) → down ≡ Next d → Followed t g d
-    next-followed d u = record { sound = descendable .followed .sound; chain = block-good t x s (i .levels) (i .root) (h .first) d (descendable .followed .chain) u }
+    next-followed d u =
+        record {
+          sound = descendable .followed .sound;
+          chain = block-good t x s (i .levels) (i .root) (h .first) d
+              (descendable .followed .chain) u;
+        }

@@ -25,10 +25,12 @@ use Rattle.index.proofs.EntryLaws.{entries-counted, with-entries}
 use Rattle.pair.specs.Tree.{Entry, entryAt, fits, joined, leaves, treeLeaves, firstKeys, sameEntries}
 use Rattle.pair.specs.Pair.{emptyFits, rootFits, treeFits}
 use Rattle.pair.specs.Rules.{KeyRight, GoodBlock, Fits, RootedTree, TreeRules}
-use Rattle.pair.proofs.FitLaws.{entries-gives, entries-takes, key-gives, key-takes, fitting, under, entry-fits, block-fits}
+use Rattle.pair.proofs.FitLaws.{entries-gives, entries-takes, key-gives, key-takes, fitting, under, entry-fits}
+use Rattle.pair.proofs.FitLaws.{block-fits}
 
 -- lists that are not empty, one after another, are not
-joined-some : (list : ℕ → List Entry) (m : ℕ) → 1 ≤ m → ((i : ℕ) → i < m → 1 ≤ length (list i)) → 1 ≤ length (joined list m)
+joined-some : (list : ℕ → List Entry) (m : ℕ) → 1 ≤ m → ((i : ℕ) → i < m → 1 ≤ length (list i)) →
+    1 ≤ length (joined list m)
 unfolding joined
 joined-some list zero l h = absurd (not-suc-le-zero l)
 joined-some list (suc i) l h = omega (arith, length-append (joined list i) (list i), h i (omega arith))
@@ -65,7 +67,9 @@ module _ (x : List ℕ) (g : Shape) (n : ℕ) where
       let some : not (eqb (r .count) 0) ≡ true = rw (ne-eqb (r .count) 0 (λ z. absurd (omega (arith, r .some)))) in
       rw (counted b (λ (e : Entry). Fits x g n level (e .block) × KeyRight x g n level e) r)
       (join some
-      (each-takes (fitting x g n level b) (r .count) (λ i l. let q = r .each-entry i l in join (fits-takes level (entryBlock x g n b i) (q .0)) (key-takes x g n level (entryAt x g n b i) (q .1)))))
+      (each-takes (fitting x g n level b) (r .count)
+      (λ i l. let q = r .each-entry i l in join (fits-takes level (entryBlock x g n b i) (q .0))
+      (key-takes x g n level (entryAt x g n b i) (q .1)))))
 
   -- a block that fits leads to level 1 entries
   leaves-some : (level : ℕ) (e : Entry) → Fits x g n level (e .block) → 1 ≤ length (leaves x g n level e)
@@ -73,7 +77,8 @@ module _ (x : List ℕ) (g : Shape) (n : ℕ) where
   leaves-some zero e r = omega arith
   leaves-some (suc level) e r =
       rw (counted (e .block) (λ (d : Entry). Fits x g n level (d .block) × KeyRight x g n level d) r)
-      (joined-some (under x g n level (e .block)) (r .count) (r .some) (λ i l. leaves-some level (entryAt x g n (e .block) i) (r .each-entry i l .0)))
+      (joined-some (under x g n level (e .block)) (r .count) (r .some)
+      (λ i l. leaves-some level (entryAt x g n (e .block) i) (r .each-entry i l .0)))
 
 -- blocks without records have no first keys
 keys-none : (t : List ℕ) (g : Shape) (n : ℕ) (bs : List ℕ) → total t g bs ≡ 0 → firstKeys t g n bs ≡ []
@@ -95,17 +100,24 @@ module _ (t : List ℕ) (h : Header) (x : List ℕ) (i : IndexHeader) where
   unfolding rootFits
   root-gives e =
       let p = both {a = fits x (i .shape) (h .«key_length») (i .levels) (i .root)} {b = sameEntries found wanted} e in
-      record { fitting = fits-gives x (i .shape) (h .«key_length») (i .levels) (i .root) (p .0); leaves-right = entries-gives found wanted (p .1) }
+      record {
+        fitting = fits-gives x (i .shape) (h .«key_length») (i .levels) (i .root) (p .0);
+        leaves-right = entries-gives found wanted (p .1);
+      }
 
   root-takes : RootedTree t h x i → rootFits t h x i ≡ true
   unfolding rootFits
-  root-takes r = join (fits-takes x (i .shape) (h .«key_length») (i .levels) (i .root) (r .fitting)) (entries-takes found wanted (r .leaves-right))
+  root-takes r =
+      join (fits-takes x (i .shape) (h .«key_length») (i .levels) (i .root) (r .fitting))
+      (entries-takes found wanted (r .leaves-right))
 
   -- a tree below a root that is not 0 has level 1 entries, and so the table has records
   records-some : RootedTree t h x i → length (recordsOf t h) ≡ 0 → ⊥
   records-some r e =
-      let some : 1 ≤ length found = leaves-some x (i .shape) (h .«key_length») (i .levels) (record { key = []; block = i .root }) (r .fitting) in
-      let none : wanted ≡ [] = keys-none t (shapeOf h) (h .«key_length») (usedOf t h) (sym (records-total t (shapeOf h) (usedOf t h)) ∙ e) in
+      let some : 1 ≤ length found = leaves-some x (i .shape) (h .«key_length») (i .levels)
+      (record { key = []; block = i .root }) (r .fitting) in
+      let none : wanted ≡ [] = keys-none t (shapeOf h) (h .«key_length») (usedOf t h)
+      (sym (records-total t (shapeOf h) (usedOf t h)) ∙ e) in
       not-suc-le-zero (rw (r .leaves-right ∙ none) at some)
 
   -- any root: 0 exactly when there are no records

@@ -8,15 +8,14 @@ use Rattle.header.specs.declared.Header.{Header}
 use Rattle.blocks.specs.Shape.{Sound}
 use Rattle.blocks.specs.Counts.{countIn}
 use Rattle.blocks.specs.declared.Shape.{Shape}
-use Rattle.chain.specs.Chain.{chainFrom}
-use Rattle.chain.specs.Links.{nextOf}
+use Rattle.chain.specs.Links.{nextOf, blocksFrom}
+use Rattle.chain.specs.Rules.{GoodFrom}
 use Rattle.table.specs.Records.{held}
 use Rattle.table.specs.Rules.{AcceptedTable}
-use Rattle.table.specs.Steps.{GoodChain}
 use Rattle.index.specs.Rules.{AcceptedIndex}
-use Rattle.index.specs.Steps.{EntriesInside}
+use Rattle.index.specs.Entries.{EntriesInside}
 use Rattle.index.specs.declared.IndexHeader.{IndexHeader}
-use Rattle.pair.specs.Tree.{Entry, keyRight, fits, leaves, treeLeaves, firstEntry}
+use Rattle.pair.specs.Tree.{Entry, entryAt, keyRight, fits, leaves, treeLeaves, firstEntry}
 use Rattle.pair.specs.declared.tree.Fit.{Fit}
 use Rattle.pair.specs.declared.tree.Fit.the-variants.{Next, Unfit}
 use Rattle.pair.specs.declared.tree.Shapes.{Shapes}
@@ -30,9 +29,10 @@ firstHolding t g (b ∷ bs) = cond (eqb (held (countIn t g b)) 0) (firstHolding 
 
 -- the first block that holds records, from number b of its chain on
 abbrev pub holdingFrom : List ℕ → Shape → ℕ → ℕ
-holdingFrom t g b = firstHolding t g (chainFrom (nextOf t g) (g .blocks) b)
+holdingFrom t g b = firstHolding t g (blocksFrom t g b)
 
--- a level 1 entry that is expected where the chain is at number c: it names the next block that holds records, with its first key
+-- a level 1 entry that is expected where the chain is at number c: it names the next block that holds records, with
+-- its first key
 unfoldable pub isExpected : List ℕ → Shape → ℕ → Entry → ℕ → Bool
 isExpected t g n e c =
     not (eqb (holdingFrom t g c) 0)
@@ -47,7 +47,7 @@ follow t g n (e ∷ es) c = cond (isExpected t g n e c) (follow t g n es (nextOf
 -- what following a chain asks, from number c on
 pub record Followed (t : List ℕ) (g : Shape) (c : ℕ) : Type 0 where
   pub sound : Sound t g
-  pub chain : GoodChain t g c (chainFrom (nextOf t g) (g .blocks) c)
+  pub chain : GoodFrom t g c
 
 -- ---- down the tree
 
@@ -58,6 +58,10 @@ module _ (t x : List ℕ) (s : Shapes) where
       cond (fits x (s .index) (s .«key_length») level (e .block) && keyRight x (s .index) (s .«key_length») level e)
       (follow t (s .table) (s .«key_length») (leaves x (s .index) (s .«key_length») level e) c) Unfit
 
+  -- the same of entry i of index block b
+  abbrev pub entryFromAt : ℕ → ℕ → ℕ → ℕ → Fit
+  entryFromAt level b i c = entryFrom level (entryAt x (s .index) (s .«key_length») b i) c
+
   -- an index block at a level: the same
   unfoldable pub blockFrom : ℕ → ℕ → ℕ → Fit
   blockFrom level b c =
@@ -66,7 +70,8 @@ module _ (t x : List ℕ) (s : Shapes) where
 
   -- a level 1 entry, whose key stands at an offset and which names a block
   abbrev pub leafFrom : ℕ → ℕ → ℕ → Fit
-  leafFrom at named c = follow t (s .table) (s .«key_length») (record { key = range x at (s .«key_length»); block = named } ∷ []) c
+  leafFrom at named c =
+      follow t (s .table) (s .«key_length») (record { key = range x at (s .«key_length»); block = named } ∷ []) c
 
   -- what going down a tree asks, where the chain of the table is at number c
   pub record Descendable (c : ℕ) : Type 0 where

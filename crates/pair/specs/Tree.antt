@@ -22,19 +22,20 @@ entryAt x g n b i = record { key = entryKey x g n b i; block = entryBlock x g n 
 
 -- ---- blocks and entries that fit
 
--- 27: an entry above level 1 has the key of the first entry in the block it names; the keys of level 1 entries are judged with their
--- blocks below. The level is that of the block named, 0 for a data block
+-- 27: an entry above level 1 has the key of the first entry in the block it names; the keys of level 1 entries are
+-- judged with their blocks below. The level is that of the block named, 0 for a data block
 unfoldable pub keyRight : List ℕ → Shape → ℕ → ℕ → Entry → Bool
 keyRight x g n zero e = true
 keyRight x g n (suc level) e = isSame (order (e .key) (entryKey x g n (e .block) 0))
 
--- 27: an index block fits when it is in the file, its count is good, it has entries and each of them fits; an entry fits when its block
--- fits one level lower. Level 0 is a data block
+-- 27: an index block fits when it is in the file, its count is good, it has entries and each of them fits; an entry
+-- fits when its block fits one level lower. Level 0 is a data block
 unfoldable pub fits : List ℕ → Shape → ℕ → ℕ → ℕ → Bool
 fits x g n zero b = true
 fits x g n (suc level) b =
     not (eqb (entriesIn x g b) 0)
-    && each (λ (i : ℕ). fits x g n level (entryBlock x g n b i) && keyRight x g n level (entryAt x g n b i)) (entriesIn x g b)
+    && each (λ (i : ℕ). fits x g n level (entryBlock x g n b i) && keyRight x g n level (entryAt x g n b i))
+    (entriesIn x g b)
 
 -- ---- the level 1 entries
 
@@ -43,10 +44,12 @@ unfoldable pub joined : (ℕ → List Entry) → ℕ → List Entry
 joined list zero = []
 joined list (suc i) = joined list i ++ list i
 
--- the level 1 entries that an entry leads to, read left to right: at level 0 its block is a data block, and it is one itself
+-- the level 1 entries that an entry leads to, read left to right: at level 0 its block is a data block, and it is one
+-- itself
 unfoldable pub leaves : List ℕ → Shape → ℕ → ℕ → Entry → List Entry
 leaves x g n zero e = e ∷ []
-leaves x g n (suc level) e = joined (λ (i : ℕ). leaves x g n level (entryAt x g n (e .block) i)) (entriesIn x g (e .block))
+leaves x g n (suc level) e =
+    joined (λ (i : ℕ). leaves x g n level (entryAt x g n (e .block) i)) (entriesIn x g (e .block))
 
 -- those of a tree: its root is named by no entry and so by no key
 abbrev pub treeLeaves : List ℕ → Shape → ℕ → ℕ → ℕ → List Entry

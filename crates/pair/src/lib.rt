@@ -1,40 +1,30 @@
-// A table and its index together: the pair check, and a key looked up both ways.
+// A table and its index together: the pair check, and a key looked up in both.
 mod tree;
 
 ghost use mathlib.Core.Path.{_≡_};
 ghost use lib.ListN.{length};
-ghost use Rattle.pair.specs.Pair.{lookedUpOf, pairAnswer, pairMarks, treeFits};
+ghost use Rattle.pair.specs.Pair.{lookUpOf, pairAnswer, pairMarks, treeFits};
 ghost use Rattle.pair.specs.Rules.{Agreeing};
 ghost use Rattle.pair.specs.Steps.{Paired};
 use header::Header;
 use header::refusal;
 use index::IndexHeader;
 use index::Walked;
-use scan::Found;
-use table::check_blocks;
+use lookup::Found;
 use tree::Fit;
 use tree::Shapes;
-
-// What a table, its index and a key come to: the pair check's answer, and the key looked up both ways.
-pub struct LookedUp {
-    pub pair: u8,
-    pub walk: Walked,
-    pub scan: Found,
-}
 
 // Checks a table and an index: 0, or the first of the table check's refusals, 13, 21 to 26 and 27 that any bytes
 // break. The mark buffer holds what the table check leaves in it.
 pub fn check(table: &[u8], index: &[u8], marks: &mut [u8]) -> u8
-    ensures { λ r. ⌜ (r ≡ pairAnswer (now (table .entry)) (now (index .entry)) (length (now (marks .entry)))) × (now (marks .exit) ≡ pairMarks (now (table .entry)) (now (marks .entry))) ⌝ }
+    ensures { λ r. ⌜ r ≡ pairAnswer (now (table .entry)) (now (index .entry)) (length (now (marks .entry))) ⌝ }
+    ensures { λ _. ⌜ now (marks .exit) ≡ pairMarks (now (table .entry)) (now (marks .entry)) ⌝ }
 {
-    let h = header::read(table);
-    if h.refusal != refusal::ACCEPTED {
-        return h.refusal;
+    let answer = table::read(table, marks);
+    if answer.refusal != refusal::ACCEPTED {
+        return answer.refusal;
     }
-    let answer = check_blocks(table, h, marks);
-    if answer != refusal::ACCEPTED {
-        return answer;
-    }
+    let h = answer.header;
     if h.key_fields == 0 {
         return refusal::BAD_ARGUMENT;
     }
@@ -71,13 +61,20 @@ fn tree_fits(table: &[u8], h: Header, index: &[u8], i: IndexHeader) -> bool
     tree::first_holding(table, table_shape, rest) == 0
 }
 
-// Checks a pair and looks a key up both ways. Where the pair is accepted and the key has the table's key length, the
-// two ways agree, whatever the bytes are. The mark buffer holds what the table check leaves in it.
-pub fn look_up(table: &[u8], index: &[u8], key: &[u8], marks: &mut [u8]) -> LookedUp
-    ensures { λ r. ⌜ (r ≡ lookedUpOf (now (table .entry)) (now (index .entry)) (now (key .entry)) (length (now (marks .entry)))) × (now (marks .exit) ≡ pairMarks (now (table .entry)) (now (marks .entry))) × Agreeing (now (table .entry)) (now (key .entry)) r ⌝ }
+// A key looked up in a pair: the pair check's refusal, or what both the walk and the scan find, with the index blocks
+// that the walk reads. The table is checked once; of an accepted pair the walk alone tells what both find. The mark
+// buffer holds what the table check leaves in it.
+pub fn look_up(table: &[u8], index: &[u8], key: &[u8], marks: &mut [u8]) -> Walked
+    ensures { λ r. ⌜ r ≡ lookUpOf (now (table .entry)) (now (index .entry)) (now (key .entry)) (now (marks .entry)) ⌝ }
+    ensures { λ _. ⌜ now (marks .exit) ≡ pairMarks (now (table .entry)) (now (marks .entry)) ⌝ }
+    ensures { λ r. ⌜ Agreeing (now (table .entry)) (now (index .entry)) (now (key .entry)) (now (marks .entry)) r ⌝ }
 {
     let pair = check(table, index, marks);
-    let walk = index::walk(table, index, key);
-    let scan = scan::find(table, key, marks);
-    LookedUp { pair, walk, scan }
+    if pair != refusal::ACCEPTED {
+        return Walked {
+            found: Found::Refused(pair),
+            reads: 0,
+        };
+    }
+    index::walk(table, index, key)
 }

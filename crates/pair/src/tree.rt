@@ -5,8 +5,7 @@ ghost use mathlib.Core.Path.{_≡_};
 ghost use Prim.Native.Nat.{_+_, _<_, _≤_};
 ghost use lib.ListN.{length};
 ghost use Rattle.index.specs.Entries.{entriesIn};
-ghost use Rattle.pair.specs.Tree.{entryAt};
-ghost use Rattle.pair.specs.Steps.{Descendable, Followed, blockFrom, entryFrom, holdingFrom, leafFrom};
+ghost use Rattle.pair.specs.Steps.{Descendable, Followed, blockFrom, entryFromAt, holdingFrom, leafFrom};
 use blocks::Count;
 use blocks::Shape;
 use chain::next_of;
@@ -109,7 +108,7 @@ fn entry_fits(
     from: usize,
 ) -> Fit
     requires { ⌜ Descendable (now table) (now index) shapes from × (i < entriesIn (now index) (shapes .index) block) ⌝ }
-    ensures { λ r. ⌜ r ≡ entryFrom (now (table .entry)) (now (index .entry)) shapes level (entryAt (now (index .entry)) (shapes .index) (shapes .«key_length») block i) from ⌝ }
+    ensures { λ r. ⌜ r ≡ entryFromAt (now (table .entry)) (now (index .entry)) shapes level block i from ⌝ }
 {
     let key = shapes.key_length as usize;
     let at = blocks::record_at(shapes.index, block, i as usize);

@@ -6,8 +6,7 @@ use crate::files::index;
 use crate::files::key;
 use crate::files::table;
 use index::Walked;
-use pair::LookedUp;
-use scan::Found;
+use lookup::Found;
 use test_lines::lines::Buffer;
 use test_lines::lines::Line;
 use test_lines::print::bytes;
@@ -36,7 +35,30 @@ fn show_walk(walked: Walked) {
     number(walked.reads as u16);
 }
 
-pub fn show_lookups(lookups: LookedUp) {
+// The pair check's answer, and a key looked up both ways.
+pub struct Lookups {
+    pub pair: u8,
+    pub walk: Walked,
+    pub scan: Found,
+}
+
+pub fn look_up(table: &[u8], index: &[u8], key: &[u8], marks: &mut [u8]) -> Lookups {
+    let both = pair::look_up(table, index, key, marks);
+    let pair = pair::check(table, index, marks);
+    let walk = walked(table, index, key, pair, both);
+    let scan = scan::find(table, key, marks);
+    Lookups { pair, walk, scan }
+}
+
+// The walk's answer: of a pair that is accepted, what looking the key up in the pair answered.
+fn walked(table: &[u8], index: &[u8], key: &[u8], pair: u8, both: Walked) -> Walked {
+    if pair == 0 {
+        return both;
+    }
+    index::walk(table, index, key)
+}
+
+pub fn show_lookups(lookups: Lookups) {
     let walk = lookups.walk;
     let scan = lookups.scan;
     letter(b' ');
@@ -58,7 +80,7 @@ fn ask(table: &[u8], index: &[u8], key: &[u8], marks: &mut [u8], command: u8) {
             letter(b' ');
             show(scan::find(table, key, marks));
         }
-        b'l' | b'h' => show_lookups(pair::look_up(table, index, key, marks)),
+        b'l' | b'h' => show_lookups(look_up(table, index, key, marks)),
         _ => {
             letter(b' ');
             number(pair::check(table, index, marks) as u16);

@@ -2,6 +2,7 @@
 // or free, by the table's own words. Shown is ` 20 keys 20 fit 6 found 14 absent 0 differ 40 read`: for how many keys
 // the pair was accepted, how many were found in one place both ways, were absent both ways, or neither, and the index
 // blocks read for all of them. Before it stands the first key that is neither, with its lookups.
+use crate::answers::look_up;
 use crate::answers::show_lookups;
 use crate::files::MARKS;
 use crate::files::byte;
@@ -31,7 +32,7 @@ use test_lines::print::say;
 fn seek(t: &Buffer, line: Line, key: &Key, sum: Sum) -> Sum {
     let sought = part(key, line.number);
     let mut marks = [line.fill; MARKS];
-    let lookups = pair::look_up(table(t, line), index(t, line), sought, &mut marks);
+    let lookups = look_up(table(t, line), index(t, line), sought, &mut marks);
     let walk = lookups.walk;
     let walked = walk.found;
     let scanned = lookups.scan;

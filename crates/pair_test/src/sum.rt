@@ -1,5 +1,5 @@
 // What looking keys up both ways comes to, counted.
-use scan::Found;
+use lookup::Found;
 use test_lines::print::number;
 use test_lines::print::say;
 

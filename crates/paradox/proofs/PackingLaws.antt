@@ -2,15 +2,16 @@
 use Prim.Native.Nat.{ℕ, _+_, _*_, _<_}
 use mathlib.Core.Path.{_≡_, sym, subst}
 use native.Mathlib.Omega.{arith}
-use Rattle.scan.specs.Found.{Lookup, lookupOf}
-use Rattle.scan.specs.declared.found.Found.{Found}
-use Rattle.scan.specs.declared.found.Found.the-variants.{At, Absent, Refused}
-use Rattle.index.specs.Walk.{numbersOf}
-use Rattle.index.specs.declared.lookup.Walked.{Walked}
+use Rattle.lookup.specs.Found.{Lookup, lookupOf}
+use Rattle.lookup.specs.declared.found.Found.{Found}
+use Rattle.lookup.specs.declared.found.Found.the-variants.{At, Absent, Refused}
+use Rattle.index.specs.Walk.{walkedNumbers}
+use Rattle.index.specs.declared.walking.Walked.{Walked}
 use Rattle.paradox.specs.Packing.{packed, refusalIn, foundIn, blockIn, placeIn, readsIn, Unpacked}
 
 -- each part of a number of five parts, of 8, 8, 16, 16 and 16 bits
-pub unpacks : (l : Lookup) (reads : ℕ) → l .refusal < 256 → l .found < 256 → l .block < 65536 → l .place < 65536 → reads < 65536 → Unpacked (packed l reads) l reads
+pub unpacks : (l : Lookup) (reads : ℕ) → l .refusal < 256 → l .found < 256 → l .block < 65536 → l .place < 65536 →
+    reads < 65536 → Unpacked (packed l reads) l reads
 unfolding packed refusalIn foundIn blockIn placeIn readsIn
 unpacks l reads a b c d e =
     record {
@@ -31,7 +32,8 @@ Packs n f reads = Holds n (lookupOf f) reads
 module _ (f g : Found) (reads n : ℕ) (known : f ≡ g) (is : n ≡ packed (lookupOf g) reads) where
   as-known : Unpacked (packed (lookupOf g) reads) (lookupOf g) reads → Packs n f reads
   as-known u =
-      subst (λ (x : Found). Packs n x reads) (sym known) (is, subst (λ (m : ℕ). Unpacked m (lookupOf g) reads) (sym is) u)
+      subst (λ (x : Found). Packs n x reads) (sym known)
+      (is, subst (λ (m : ℕ). Unpacked m (lookupOf g) reads) (sym is) u)
 
 -- ---- case by case
 
@@ -40,23 +42,28 @@ module _ (f : Found) (reads : ℕ) (few : reads < 256) where
       → Packs (0x100 + 0x10000 * block + 0x100000000 * place + 0x1000000000000 * reads) f reads
   unfolding packed lookupOf
   at-packs block place known b p =
-      as-known f (At block place) reads _ known (omega arith) (unpacks (lookupOf (At block place)) reads (omega arith) (omega arith) b p (omega arith))
+      as-known f (At block place) reads _ known (omega arith)
+      (unpacks (lookupOf (At block place)) reads (omega arith) (omega arith) b p (omega arith))
 
   pub absent-packs : f ≡ Absent → Packs (0x1000000000000 * reads) f reads
   unfolding packed lookupOf
   absent-packs known =
-      as-known f Absent reads _ known (omega arith) (unpacks (lookupOf Absent) reads (omega arith) (omega arith) (omega arith) (omega arith) (omega arith))
+      as-known f Absent reads _ known (omega arith)
+      (unpacks (lookupOf Absent) reads (omega arith) (omega arith) (omega arith) (omega arith) (omega arith))
 
-  pub refused-packs : (number : ℕ) → f ≡ Refused number → number < 256 → Packs (number + 0x1000000000000 * reads) f reads
+  pub refused-packs : (number : ℕ) → f ≡ Refused number → number < 256 →
+      Packs (number + 0x1000000000000 * reads) f reads
   unfolding packed lookupOf
   refused-packs number known l =
-      as-known f (Refused number) reads _ known (omega arith) (unpacks (lookupOf (Refused number)) reads l (omega arith) (omega arith) (omega arith) (omega arith))
+      as-known f (Refused number) reads _ known (omega arith)
+      (unpacks (lookupOf (Refused number)) reads l (omega arith) (omega arith) (omega arith) (omega arith))
 
 -- ---- the answers of the two lookups, in document 01's numbers
 
 pub scan-packs : (n : ℕ) (f : Found) (l : Lookup) → lookupOf f ≡ l → Packs n f 0 → Holds n l 0
 scan-packs n f l e p = subst (λ (x : Lookup). Holds n x 0) e p
 
-pub walk-packs : (n : ℕ) (w : Walked) (q : Lookup × ℕ) → numbersOf w ≡ q → Packs n (w .found) (w .reads) → Holds n (q .0) (q .1)
-unfolding numbersOf
+pub walk-packs : (n : ℕ) (w : Walked) (q : Lookup × ℕ) → walkedNumbers w ≡ q → Packs n (w .found) (w .reads) →
+    Holds n (q .0) (q .1)
+unfolding walkedNumbers
 walk-packs n w q e p = subst (λ (x : Lookup × ℕ). Holds n (x .0) (x .1)) e p

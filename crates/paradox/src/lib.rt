@@ -2,17 +2,17 @@
 ghost use mathlib.Core.Path.{_≡_};
 ghost use lib.ListN.{length};
 ghost use Rattle.table.specs.Table.{tableAnswer, tableMarks};
-ghost use Rattle.scan.specs.Found.{lookupOf};
-ghost use Rattle.scan.specs.Scan.{scanLookup, scanMarks};
-ghost use Rattle.index.specs.Walk.{walkNumbers};
+ghost use Rattle.lookup.specs.Found.{lookupOf};
+ghost use Rattle.scan.specs.Scan.{scanMarks};
 ghost use Rattle.pair.specs.Pair.{pairAnswer, pairMarks};
-ghost use Rattle.paradox.specs.Packing.{Unpacked, packed};
-use scan::Found;
+ghost use Rattle.paradox.specs.Packing.{ScanUnpacked, Unpacked, WalkUnpacked, packed, packedScan, packedWalk};
+use lookup::Found;
 
 // Checks a table: 0, or the refusal's number. The mark buffer holds what the table check leaves in it.
 #[no_mangle]
 pub extern "C" fn paradox_table_check(table: &[u8], marks: &mut [u8]) -> u32
-    ensures { λ r. ⌜ (r ≡ tableAnswer (now (table .entry)) (length (now (marks .entry)))) × (now (marks .exit) ≡ tableMarks (now (table .entry)) (now (marks .entry))) ⌝ }
+    ensures { λ r. ⌜ r ≡ tableAnswer (now (table .entry)) (length (now (marks .entry))) ⌝ }
+    ensures { λ _. ⌜ now (marks .exit) ≡ tableMarks (now (table .entry)) (now (marks .entry)) ⌝ }
 {
     table::check(table, marks) as u32
 }
@@ -20,7 +20,8 @@ pub extern "C" fn paradox_table_check(table: &[u8], marks: &mut [u8]) -> u32
 // Checks a table with its index: 0, or the refusal's number. The mark buffer holds what the table check leaves in it.
 #[no_mangle]
 pub extern "C" fn paradox_pair_check(table: &[u8], index: &[u8], marks: &mut [u8]) -> u32
-    ensures { λ r. ⌜ (r ≡ pairAnswer (now (table .entry)) (now (index .entry)) (length (now (marks .entry)))) × (now (marks .exit) ≡ pairMarks (now (table .entry)) (now (marks .entry))) ⌝ }
+    ensures { λ r. ⌜ r ≡ pairAnswer (now (table .entry)) (now (index .entry)) (length (now (marks .entry))) ⌝ }
+    ensures { λ _. ⌜ now (marks .exit) ≡ pairMarks (now (table .entry)) (now (marks .entry)) ⌝ }
 {
     pair::check(table, index, marks) as u32
 }
@@ -29,7 +30,9 @@ pub extern "C" fn paradox_pair_check(table: &[u8], index: &[u8], marks: &mut [u8
 // leaves in it.
 #[no_mangle]
 pub extern "C" fn paradox_scan(table: &[u8], key: &[u8], marks: &mut [u8]) -> u64
-    ensures { λ r. ⌜ (r ≡ packed (scanLookup (now (table .entry)) (now (key .entry)) (length (now (marks .entry)))) 0) × (Unpacked r (scanLookup (now (table .entry)) (now (key .entry)) (length (now (marks .entry)))) 0) × (now (marks .exit) ≡ scanMarks (now (table .entry)) (now (marks .entry))) ⌝ }
+    ensures { λ r. ⌜ r ≡ packedScan (now (table .entry)) (now (key .entry)) (length (now (marks .entry))) ⌝ }
+    ensures { λ r. ⌜ ScanUnpacked (now (table .entry)) (now (key .entry)) (length (now (marks .entry))) r ⌝ }
+    ensures { λ _. ⌜ now (marks .exit) ≡ scanMarks (now (table .entry)) (now (marks .entry)) ⌝ }
 {
     pack(scan::find(table, key, marks), 0)
 }
@@ -37,7 +40,8 @@ pub extern "C" fn paradox_scan(table: &[u8], key: &[u8], marks: &mut [u8]) -> u6
 // Looks a key up by a walk down the index: the lookup's numbers and the index blocks read, packed.
 #[no_mangle]
 pub extern "C" fn paradox_walk(table: &[u8], index: &[u8], key: &[u8]) -> u64
-    ensures { λ r. ⌜ (r ≡ packed (walkNumbers (now (table .entry)) (now (index .entry)) (now (key .entry)) .0) (walkNumbers (now (table .entry)) (now (index .entry)) (now (key .entry)) .1)) × (Unpacked r (walkNumbers (now (table .entry)) (now (index .entry)) (now (key .entry)) .0) (walkNumbers (now (table .entry)) (now (index .entry)) (now (key .entry)) .1)) ⌝ }
+    ensures { λ r. ⌜ r ≡ packedWalk (now (table .entry)) (now (index .entry)) (now (key .entry)) ⌝ }
+    ensures { λ r. ⌜ WalkUnpacked (now (table .entry)) (now (index .entry)) (now (key .entry)) r ⌝ }
 {
     let walked = index::walk(table, index, key);
     let found = walked.found;

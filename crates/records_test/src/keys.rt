@@ -1,6 +1,6 @@
 // What a scan answers: the record's block and place, ` 4.1`, ` -` for absent, ` !13` for refusal 13. The marks may be
 // shown behind it, all 8, lent or not.
-use scan::Found;
+use lookup::Found;
 use test_lines::lines::Buffer;
 use test_lines::lines::Line;
 use test_lines::lines::TABLE_SIZE;

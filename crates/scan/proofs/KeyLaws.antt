@@ -1,73 +1,31 @@
--- The scan of an accepted table is absent exactly when no record has the key, and what it finds is the only record that has it.
--- Assumes nothing.
-use Prim.Native.Nat.{ℕ, zero, suc, _≤_, _<_}
+-- The scan of an accepted table is absent exactly when no record has the key, and what it finds is the only record
+-- that has it. Assumes nothing.
+use Prim.Native.Nat.{ℕ, _≤_}
 use mathlib.Core.Path.{_≡_, refl, sym, ap, subst, _∙_}
-use mathlib.Core.Bool.{Bool, true, false, cond, false≢true}
-use mathlib.Core.List.{List, [], _∷_}
-use native.Mathlib.Nat.{not-suc-le-zero, le-of-suc-le-suc}
+use mathlib.Core.Bool.{Bool, true, false}
+use mathlib.Core.List.{List}
 use native.Mathlib.Omega.{arith}
 use lib.Dec.{eqb}
 use lib.ListN.{length, getD}
 use borrow.Author.Tests.{eqb-true, eqb-false}
-use Rattle.words.proofs.OrderLaws.{same-gives, same-takes}
-use Rattle.header.specs.Header.{headerOf}
+use Rattle.header.specs.Refusals.{badArgument}
+use Rattle.header.specs.Numbers.{numbersOf}
 use Rattle.header.specs.declared.Header.{Header}
 use Rattle.blocks.specs.Shape.{shapeOf}
-use Rattle.blocks.specs.declared.Shape.{Shape}
 use Rattle.table.specs.Records.{Position, recordsOf}
 use Rattle.table.specs.Keys.{keyAt}
 use Rattle.table.specs.Table.{tableAnswer}
 use Rattle.table.proofs.RuleLaws.{accepted-table}
 use Rattle.table.proofs.UniqueLaws.{any-default, key-once}
-use Rattle.scan.specs.Scan.{firstWith, keyFits, scanOf}
-use Rattle.scan.specs.Rules.{HasKey}
-use Rattle.scan.specs.declared.found.Found.{Found}
-use Rattle.scan.specs.declared.found.Found.the-variants.{At, Absent, Refused}
-use Rattle.scan.proofs.FirstLaws.{isSought}
-use Rattle.scan.proofs.ScanLaws.{fits-gives, scan-refused, scan-unfit, scan-first}
-
--- ---- the test of a key is its equality
-
-module _ (t : List ℕ) (g : Shape) (key : List ℕ) where
-  key-gives : (p : Position) → isSought t g key p ≡ true → keyAt t g (length key) p ≡ key
-  key-gives p e = same-gives (keyAt t g (length key) p) key e
-
-  key-takes : (p : Position) → keyAt t g (length key) p ≡ key → isSought t g key p ≡ true
-  key-takes p e = same-takes (keyAt t g (length key) p) key e
-
-  -- ---- what the first of some records with the key is
-
-  -- the one at an index has the key and is the answer, or none has it
-  data Looked (ps : List Position) (r : Found) : Type 0 where
-    finds : (p : Position) (i : ℕ) → i < length ps → getD ps i p ≡ p → keyAt t g (length key) p ≡ key → r ≡ At (p .block) (p .place) → Looked ps r
-    misses : ((i : ℕ) (d : Position) → i < length ps → keyAt t g (length key) (getD ps i d) ≡ key → ⊥) → r ≡ Absent → Looked ps r
-
-  later : (p : Position) (ps : List Position) (r : Found) → isSought t g key p ≡ false → Looked ps r → Looked (p ∷ ps) r
-  later p ps r e (finds q i l there same at) = finds q (suc i) (omega arith) there same at
-  later p ps r e (misses h none) = misses go none
-    where
-      go : (i : ℕ) (d : Position) → i < length (p ∷ ps) → keyAt t g (length key) (getD (p ∷ ps) i d) ≡ key → ⊥
-      go zero d l k = false≢true (sym e ∙ key-takes p k)
-      go (suc i) d l k = h i d (le-of-suc-le-suc l) k
-
-  looked : (ps : List Position) → Looked ps (firstWith t g key ps)
-  unfolding firstWith
-  looked [] = misses (λ i d l k. absurd (not-suc-le-zero l)) refl
-  looked (p ∷ ps) = go (isSought t g key p) refl (looked ps)
-    where
-      go : (c : Bool) → isSought t g key p ≡ c → Looked ps (firstWith t g key ps) → Looked (p ∷ ps) (cond c (At (p .block) (p .place)) (firstWith t g key ps))
-      go true e w = finds p 0 (omega arith) refl (key-gives p e) refl
-      go false e w = later p ps (firstWith t g key ps) e w
+use Rattle.lookup.specs.Sought.{keyFits, firstWith}
+use Rattle.lookup.specs.Rules.{HasKey}
+use Rattle.lookup.specs.declared.found.Found.{Found}
+use Rattle.lookup.specs.declared.found.Found.the-variants.{At, Absent, Refused}
+use Rattle.lookup.proofs.KeyLaws.{fits-gives, Looked, finds, misses, looked, first-answers}
+use Rattle.scan.specs.Scan.{scanOf}
+use Rattle.scan.proofs.ScanLaws.{scan-refused, scan-unfit, scan-first}
 
 -- ---- a refused scan has a number, so absent is told from it by the numbers too
-
--- the first record with a key is one or is absent
-pub first-answers : (t : List ℕ) (g : Shape) (key : List ℕ) (ps : List Position) (n : ℕ) → firstWith t g key ps ≡ Refused n → ⊥
-first-answers t g key ps n e = go (looked t g key ps)
-  where
-    go : Looked t g key ps (firstWith t g key ps) → ⊥
-    go (finds p i l there same at) = let z : _≡_ {A = ℕ} 0 1 = cc in omega arith
-    go (misses none at) = let z : _≡_ {A = ℕ} 0 1 = cc in omega arith
 
 pub refused-number : (t key : List ℕ) (room n : ℕ) → scanOf t key room ≡ Refused n → 1 ≤ n
 refused-number t key room n r = by-table (eqb (tableAnswer t room) 0) refl
@@ -75,19 +33,25 @@ refused-number t key room n r = by-table (eqb (tableAnswer t room) 0) refl
     same : (m : ℕ) → scanOf t key room ≡ Refused m → m ≡ n
     same m e = cc
 
-    by-key : tableAnswer t room ≡ 0 → (b : Bool) → keyFits (headerOf t) key ≡ b → 1 ≤ n
-    by-key e true f = absurd (first-answers t (shapeOf (headerOf t)) key (recordsOf t (headerOf t)) n (sym (scan-first t key room e f) ∙ r))
-    by-key e false f = omega (arith, same 13 (scan-unfit t key room e f))
+    by-key : tableAnswer t room ≡ 0 → (b : Bool) → keyFits (numbersOf t) key ≡ b → 1 ≤ n
+    by-key e true f =
+        let h = numbersOf t in
+        absurd (first-answers t (shapeOf h) key (recordsOf t h) n (sym (scan-first t key room e f) ∙ r))
+    by-key e false f = omega (arith, same badArgument (scan-unfit t key room e f))
 
     by-table : (b : Bool) → eqb (tableAnswer t room) 0 ≡ b → 1 ≤ n
-    by-table true e = by-key (eqb-true (tableAnswer t room) 0 e) (keyFits (headerOf t) key) refl
-    by-table false e = let ne = eqb-false (tableAnswer t room) 0 e in omega (arith, same (tableAnswer t room) (scan-refused t key room ne))
+    by-table true e = by-key (eqb-true (tableAnswer t room) 0 e) (keyFits (numbersOf t) key) refl
+    by-table false e =
+        let ne = eqb-false (tableAnswer t room) 0 e in omega (
+          arith,
+          same (tableAnswer t room) (scan-refused t key room ne),
+        )
 
 -- ---- the scan of an accepted table, for a key of its key length
 
-module _ (t key : List ℕ) (room : ℕ) (e : tableAnswer t room ≡ 0) (f : keyFits (headerOf t) key ≡ true) where
+module _ (t key : List ℕ) (room : ℕ) (e : tableAnswer t room ≡ 0) (f : keyFits (numbersOf t) key ≡ true) where
   abbrev h : Header
-  h = headerOf t
+  h = numbersOf t
 
   -- what the scan came to: the one record with the key, or that there is none
   data Scanned (r : Found) : Type 0 where
@@ -103,17 +67,27 @@ module _ (t key : List ℕ) (room : ℕ) (e : tableAnswer t room ≡ 0) (f : key
       first : scanOf t key room ≡ firstWith t (shapeOf h) key (recordsOf t h)
       first = scan-first t key room e f
 
-      go : Looked t (shapeOf h) key (recordsOf t h) (firstWith t (shapeOf h) key (recordsOf t h)) → Scanned (scanOf t key room)
-      go (finds p i l there same at) = record-found p (record { index = i; inside = l; there = there; same = subst (λ (n : ℕ). keyAt t (shapeOf h) n p ≡ key) size same }) (first ∙ at)
+      go : Looked t (shapeOf h) key (recordsOf t h) (firstWith t (shapeOf h) key (recordsOf t h)) →
+          Scanned (scanOf t key room)
+      go (finds p i l there same at) =
+          record-found p (record {
+            index = i;
+            inside = l;
+            there = there;
+            same = subst
+                (λ (n : ℕ). keyAt t (shapeOf h) n p ≡ key) size same;
+          }) (first ∙ at)
       go (misses none at) =
           none-found
-          (λ p k. none (k .index) p (k .inside) (rw (k .there) (subst (λ (n : ℕ). keyAt t (shapeOf h) n p ≡ key) (sym size) (k .same))))
+          (λ p k. none (k .index) p (k .inside) (rw (k .there)
+          (subst (λ (n : ℕ). keyAt t (shapeOf h) n p ≡ key) (sym size) (k .same))))
           (first ∙ at)
 
   -- records with the key are one record
   pub one-record : (p q : Position) → HasKey t h key p → HasKey t h key q → p ≡ q
   one-record p q k l =
-      let i : k .index ≡ l .index = key-once t h (accepted-table t room e) (fits-gives h key f .0) (k .index) (l .index) p q (k .inside) (l .inside) (rw (k .there, l .there) (k .same ∙ sym (l .same))) in
+      let i : k .index ≡ l .index = key-once t h (accepted-table t room e) (fits-gives h key f .0) (k .index) (l .index)
+      p q (k .inside) (l .inside) (rw (k .there, l .there) (k .same ∙ sym (l .same))) in
       sym (k .there)
       ∙ any-default (recordsOf t h) (k .index) p q (k .inside)
       ∙ ap (λ (n : ℕ). getD (recordsOf t h) n q) i

@@ -1,4 +1,3 @@
-pub mod FirstLaws
 pub mod ChainLaws
 pub mod ScanLaws
 pub mod KeyLaws

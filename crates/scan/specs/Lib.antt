@@ -1,4 +1,2 @@
-pub mod Found
 pub mod Scan
-pub mod Rules
 pub mod Steps

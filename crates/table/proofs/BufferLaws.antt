@@ -1,28 +1,36 @@
--- The mark buffer by the answer's number: unchanged with 1 to 7 and 14, cleared with 8, else the marks of both chains. Assumes nothing.
+-- The mark buffer by the answer's number: unchanged with 1 to 7 and 14, cleared with 8, else the marks of both
+-- chains. Assumes nothing.
 use Prim.Native.Nat.{ℕ, zero, suc}
 use mathlib.Core.Path.{_≡_, refl}
 use mathlib.Core.Bool.{Bool, true, false, cond}
 use mathlib.Core.List.{List, _++_}
 use native.Mathlib.Omega.{arith}
-use lib.Dec.{eqb, leb, eqb·suc-zero}
+use lib.Dec.{leb}
 use lib.ListN.{length, replicate, drop, length-append, length-replicate}
 use lib.Seq.{drop-at}
 use borrow.Author.Tests.{le-leb}
-use Rattle.header.specs.Header.{headerOf}
+use Rattle.header.specs.Refusals.{chainRule, shortBuffer, firstBroken}
+use Rattle.header.specs.Header.{headerRefusal}
+use Rattle.header.specs.Numbers.{numbersOf}
+use Rattle.header.specs.Answers.{unlessRefused, headerFirst}
 use Rattle.header.specs.declared.Header.{Header}
 use Rattle.chain.specs.Links.{usedOf}
-use Rattle.chain.specs.Marks.{marksOf}
+use Rattle.chain.specs.Marks.{unmarked, marksOf}
 use Rattle.chain.proofs.ListLaws.{marks-length}
 use Rattle.table.specs.Counts.{countsRight, sumFits}
 use Rattle.table.specs.Keys.{keysAscend}
-use Rattle.table.specs.Table.{tableChained, rulesAnswer, blocksAnswer, tableAnswer, blockMarks, bufferAfter, tableMarks}
-use Rattle.table.specs.Rules.{noted, MarksLeft, by-header, by-buffer, by-chains, by-counts, by-sum, by-keys, accepting}
+use Rattle.table.specs.Table.{tableChained, recordsAnswer, rulesAnswer, blocksAnswer, tableAnswer}
+use Rattle.table.specs.Table.{blockMarks, bufferAfter, tableMarks}
+use Rattle.table.specs.Rules.{noted, MarksLeft, by-header, by-buffer, by-chains, by-counts, by-sum, by-keys}
+use Rattle.table.specs.Rules.{accepting}
 
 module _ (t m : List ℕ) where
   -- 8, 9, 16, 10, by the tests of the rules
   by-rules : (chains counts few keys : Bool)
-      → MarksLeft t m (cond chains (cond counts (cond few (cond keys 0 10) 16) 9) 8)
-      (cond chains (marksOf (headerOf t .blocks) (usedOf t (headerOf t))) (replicate (headerOf t .blocks) 0) ++ drop (headerOf t .blocks) m)
+      → let h = numbersOf t in
+      let marks = cond chains (marksOf (h .blocks) (usedOf t h)) (replicate (h .blocks) unmarked) in
+      MarksLeft t m (firstBroken chains chainRule (recordsAnswer counts few keys)) (marks ++ drop (h .blocks) m)
+  unfolding recordsAnswer
   by-rules false counts few keys = by-chains
   by-rules true false few keys = by-counts
   by-rules true true false keys = by-sum
@@ -30,25 +38,30 @@ module _ (t m : List ℕ) where
   by-rules true true true true = accepting
 
   -- 14 comes before them
-  by-room : (room : Bool) (a : ℕ) (marks : List ℕ) → MarksLeft t m a marks → MarksLeft t m (cond room a 14) (cond room marks m)
+  by-room : (room : Bool) (a : ℕ) (marks : List ℕ) → MarksLeft t m a marks →
+      MarksLeft t m (firstBroken room shortBuffer a) (cond room marks m)
   by-room true a marks k = k
   by-room false a marks k = by-buffer
 
   -- 1 to 7 come first
-  by-number : (n a : ℕ) (marks : List ℕ) → headerOf t .refusal ≡ n → MarksLeft t m a marks → MarksLeft t m (cond (eqb n 0) a n) (cond (eqb n 0) marks m)
+  by-number : (n a : ℕ) (marks : List ℕ) → headerRefusal t ≡ n → MarksLeft t m a marks →
+      MarksLeft t m (unlessRefused n (λ (i : ℕ). i) a) (unlessRefused n (λ (i : ℕ). m) marks)
+  unfolding unlessRefused
   by-number zero a marks e k = k
-  by-number (suc n) a marks e k = rw eqb·suc-zero (by-header e (omega arith))
+  by-number (suc n) a marks e k = by-header e (omega arith)
 
   -- what the check leaves in the mark buffer, by its answer
   pub marks-left : MarksLeft t m (tableAnswer t (length m)) (tableMarks t m)
-  unfolding tableAnswer tableMarks blocksAnswer bufferAfter rulesAnswer blockMarks
+  unfolding tableAnswer tableMarks headerFirst blocksAnswer bufferAfter rulesAnswer blockMarks
   marks-left =
-      let h = headerOf t in
-      by-number (h .refusal) (blocksAnswer t h (length m)) (bufferAfter t h m) refl
+      let h = numbersOf t in
+      by-number (headerRefusal t) (blocksAnswer t h (length m)) (bufferAfter t h m) refl
       (by-room (leb (h .blocks) (length m)) (rulesAnswer t h) (blockMarks t h ++ drop (h .blocks) m)
-      (by-rules (tableChained t h) (countsRight t h (usedOf t h)) (sumFits t h (usedOf t h)) (keysAscend t h (usedOf t h))))
+      (by-rules (tableChained t h) (countsRight t h (usedOf t h)) (sumFits t h (usedOf t h))
+      (keysAscend t h (usedOf t h))))
 
-  -- an accepted table's marks: 1 for a used block and 2 for a free one. A later answer of a call that ran the check leaves them so
+  -- an accepted table's marks: 1 for a used block and 2 for a free one. A later answer of a call that ran the check
+  -- leaves them so
   pub accepted-marks : tableAnswer t (length m) ≡ 0 → tableMarks t m ≡ noted t m
   accepted-marks e = go (tableAnswer t (length m)) (tableMarks t m) e marks-left
     where
@@ -80,16 +93,27 @@ module _ (t : List ℕ) (h : Header) where
       left = blockMarks t h ++ drop (h .blocks) m
 
       long : leb (h .blocks) (length left) ≡ true
-      long = le-leb (h .blocks) (length left) (omega (arith, length-append (blockMarks t h) (drop (h .blocks) m), block-marks))
+      long =
+          le-leb (h .blocks) (length left) (omega (
+            arith,
+            length-append (blockMarks t h) (drop (h .blocks) m),
+            block-marks,
+          ))
 
       go : (b : Bool) → leb (h .blocks) (length m) ≡ b → bufferAfter t h (cond b left m) ≡ cond b left m
       go true e = rw (long, drop-at (blockMarks t h) (drop (h .blocks) m) (h .blocks) block-marks)
       go false e = rw e
 
 pub marks-again : (t m : List ℕ) → tableMarks t (tableMarks t m) ≡ tableMarks t m
-unfolding tableMarks
-marks-again t m = go (eqb (headerOf t .refusal) 0) refl
+unfolding tableMarks headerFirst unlessRefused
+marks-again t m = go (headerRefusal t)
   where
-    go : (b : Bool) → eqb (headerOf t .refusal) 0 ≡ b → cond b (bufferAfter t (headerOf t) (cond b (bufferAfter t (headerOf t) m) m)) (cond b (bufferAfter t (headerOf t) m) m) ≡ cond b (bufferAfter t (headerOf t) m) m
-    go true e = buffer-again t (headerOf t) m
-    go false e = refl
+    marks : List ℕ → List ℕ
+    marks l = bufferAfter t (numbersOf t) l
+
+    go : (n : ℕ) →
+        unlessRefused n (λ (i : ℕ). unlessRefused n (λ (j : ℕ). m) (marks m))
+        (marks (unlessRefused n (λ (j : ℕ). m) (marks m)))
+        ≡ unlessRefused n (λ (j : ℕ). m) (marks m)
+    go zero = buffer-again t (numbersOf t) m
+    go (suc n) = refl

@@ -10,7 +10,8 @@ use Rattle.header.specs.declared.Header.{Header}
 use Rattle.blocks.specs.Shape.{shapeOf}
 use Rattle.chain.specs.Chain.{names, lastOf}
 use Rattle.chain.specs.Links.{previousOf, linksOf, usedOf, freeOf}
-use Rattle.chain.specs.Steps.{takesAll, marked, allMarked, anyTwo}
+use Rattle.chain.specs.Marks.{allMarked}
+use Rattle.chain.specs.Following.{takesAll, marked, anyTwo}
 use Rattle.chain.proofs.MarkLaws.{rule-is, marks-are, marked-length}
 use Rattle.table.specs.Table.{tableChained}
 use Rattle.table.specs.Steps.{nothing, addBlock, UsedFollowed, FreeFollowed, ChainsMarked}
@@ -18,7 +19,8 @@ use Rattle.table.specs.declared.used.UsedChain.{UsedChain}
 use Rattle.table.specs.declared.chains.Chains.{Chains}
 
 -- chains that are not right say nothing of marks and tally
-pub chains-wrong : (t : List ℕ) (h : Header) (r : Chains) → r .right ≡ false → tableChained t h ≡ false → (m : List ℕ) → ChainsMarked t h r m
+pub chains-wrong : (t : List ℕ) (h : Header) (r : Chains) → r .right ≡ false → tableChained t h ≡ false → (m : List ℕ) →
+    ChainsMarked t h r m
 chains-wrong t h r e f m =
     record {
       judged = e ∙ sym f;
@@ -33,16 +35,20 @@ module _ (t : List ℕ) (h : Header) (m₀ : List ℕ) (unmarked : m₀ ≡ repl
   no-marks = replicate (h .blocks) 0
 
   judged : r .whole ≡ takesAll (names (previousOf t (shapeOf h))) 1 0 (usedOf t h) no-marks
-  judged = rw (unmarked, length-replicate) at (w .judged)
+  unfolding shapeOf
+  judged = rw unmarked at (w .judged)
 
   ended : r .whole ≡ true → r .last ≡ lastOf 0 (usedOf t h)
-  ended e = rw (unmarked, length-replicate) at (w .ended e)
+  unfolding shapeOf
+  ended e = w .ended e
 
   stored : r .whole ≡ true → m₁ ≡ marked 1 (usedOf t h) no-marks
-  stored e = rw (unmarked, length-replicate) at (w .stored e)
+  unfolding shapeOf
+  stored e = rw unmarked at (w .stored e)
 
   tallied : r .whole ≡ true → r .tally ≡ foldl (addBlock t (shapeOf h) (h .«key_length»)) nothing (usedOf t h)
-  tallied e = rw (unmarked, length-replicate) at (w .tallied e)
+  unfolding shapeOf
+  tallied e = w .tallied e
 
   -- a block that may not be taken, or another last block
   pub used-wrong : (r .whole && eqb (r .last) (h .last)) ≡ false → tableChained t h ≡ false
@@ -71,10 +77,12 @@ module _ (t : List ℕ) (h : Header) (m₀ : List ℕ) (unmarked : m₀ ≡ repl
       both-marks = marked 2 (freeOf t h) (marked 1 (usedOf t h) no-marks)
 
       free-judged : ok ≡ takesAll anyTwo 2 0 (freeOf t h) (marked 1 (usedOf t h) no-marks)
-      free-judged = v .judged ∙ rw (marks-stay, stored yes)
+      unfolding shapeOf
+      free-judged = v .judged ∙ rw (stored yes)
 
       free-stored : ok ≡ true → m₂ ≡ both-marks
-      free-stored e = v .stored e ∙ rw (marks-stay, stored yes)
+      unfolding shapeOf
+      free-stored e = v .stored e ∙ rw (stored yes)
 
       so-far : tableChained t h ≡ (ok && allMarked both-marks)
       so-far = rule-is (h .blocks) (linksOf t h) ∙ rw (sym judged ∙ yes, at-last, ← free-judged)

@@ -1,5 +1,5 @@
--- Keys passed one after another, a record at a time and a block at a time: what they come to, and where the last one stands.
--- Assumes nothing.
+-- Keys passed one after another, a record at a time and a block at a time: what they come to, and where the last one
+-- stands. Assumes nothing.
 use Prim.Native.Nat.{ℕ, zero, suc, _+_, _-_, _≤_, _<_}
 use mathlib.Core.Path.{_≡_, refl, sym, ap, _∙_}
 use mathlib.Core.Bool.{Bool, true, false, cond, _&&_}
@@ -12,14 +12,11 @@ use lib.ListN.{length}
 use borrow.Author.Tests.{eq-eqb, ne-eqb}
 use Rattle.words.specs.Order.{isLess, order, range}
 use Rattle.words.proofs.Cases.{cond-same}
-use Rattle.blocks.specs.Shape.{recordAt, Sound}
-use Rattle.blocks.specs.Counts.{countIn}
+use Rattle.blocks.specs.Shape.{recordAt}
 use Rattle.blocks.specs.declared.Shape.{Shape}
-use Rattle.blocks.specs.declared.count.Count.the-variants.{Records}
-use Rattle.blocks.proofs.CountLaws.{record-in-file}
 use Rattle.table.specs.Records.{Position, placesFrom}
 use Rattle.table.specs.Keys.{keyAt, ascendFrom, ascend}
-use Rattle.table.specs.Steps.{nextKey, keysAfter, runAfter, isOrdered, KeyInside, last, unordered, RunInside}
+use Rattle.table.specs.Steps.{nextKey, keysAfter, runAfter, isOrdered, KeyInside, last, unordered}
 use Rattle.table.specs.declared.keys.Keys.{Keys}
 use Rattle.table.specs.declared.keys.Keys.the-variants.{None, Last, Unordered}
 
@@ -36,17 +33,20 @@ module _ (t : List ℕ) (g : Shape) (key b : ℕ) where
   keys-end place count keys h = let e : count - place ≡ 0 = omega arith in rw e
 
   keys-more : (place count : ℕ) (keys : Keys) → place < count →
-      keysAfter t g key b place (count - place) keys ≡ keysAfter t g key b (place + 1) (count - (place + 1)) (nextKey t key keys (recordAt g b place))
+      keysAfter t g key b place (count - place) keys ≡ keysAfter t g key b (place + 1) (count - (place + 1))
+      (nextKey t key keys (recordAt g b place))
   unfolding keysAfter
   keys-more place count keys h = let e : count - place ≡ suc (count - (place + 1)) = omega arith in rw (e, add-one)
 
   module _ (place count last : ℕ) (h : place < count) where
     pub keys-less : isLess (order (range t last key) (range t (recordAt g b place) key)) ≡ true →
-        keysAfter t g key b place (count - place) (Last last) ≡ keysAfter t g key b (place + 1) (count - (place + 1)) (Last (recordAt g b place))
+        keysAfter t g key b place (count - place) (Last last) ≡ keysAfter t g key b (place + 1) (count - (place + 1))
+        (Last (recordAt g b place))
     unfolding nextKey
     keys-less l = rw (keys-more place count (Last last) h, l)
 
-    pub keys-broken : isLess (order (range t last key) (range t (recordAt g b place) key)) ≡ false → keysAfter t g key b place (count - place) (Last last) ≡ Unordered
+    pub keys-broken : isLess (order (range t last key) (range t (recordAt g b place) key)) ≡ false →
+        keysAfter t g key b place (count - place) (Last last) ≡ Unordered
     unfolding nextKey
     keys-broken l = rw (keys-more place count (Last last) h, l) (keys-unordered (place + 1) (count - (place + 1)))
 
@@ -68,7 +68,9 @@ module _ (t : List ℕ) (g : Shape) (key b : ℕ) where
 
     pub run-first : (n ≡ 0 → ⊥) → runAfter t g key b n None ≡ keysAfter t g key b 1 (n - 1) (Last (recordAt g b 0))
     unfolding nextKey
-    run-first h = run-keyed None ∙ ap (λ (m : ℕ). keysAfter t g key b 0 m None) (sym (sub-zero n)) ∙ keys-more 0 n None (omega arith)
+    run-first h =
+        run-keyed None ∙ ap (λ (m : ℕ). keysAfter t g key b 0 m None) (sym (sub-zero n))
+        ∙ keys-more 0 n None (omega arith)
 
     pub run-last : (at : ℕ) → runAfter t g key b n (Last at) ≡ keysAfter t g key b 0 (n - 0) (Last at)
     run-last at = rw (sub-zero n) (run-keyed (Last at))
@@ -89,16 +91,19 @@ ascendAfter t key (Last at) keys = ascendFrom (range t at key) keys
 ascendAfter t key Unordered keys = false
 
 module _ (t : List ℕ) (g : Shape) (key : ℕ) where
-  places-passed : (b place n : ℕ) (keys : Keys) → keysAfter t g key b place n keys ≡ passed t g key keys (placesFrom b place n)
+  places-passed : (b place n : ℕ) (keys : Keys) →
+      keysAfter t g key b place n keys ≡ passed t g key keys (placesFrom b place n)
   unfolding keysAfter placesFrom
   places-passed b place zero keys = refl
   places-passed b place (suc n) keys = places-passed b (suc place) n (nextKey t key keys (recordAt g b place))
 
-  pub run-passed : (b n : ℕ) (keys : Keys) → (key ≡ 0 → ⊥) → runAfter t g key b n keys ≡ passed t g key keys (placesFrom b 0 n)
+  pub run-passed : (b n : ℕ) (keys : Keys) → (key ≡ 0 → ⊥) →
+      runAfter t g key b n keys ≡ passed t g key keys (placesFrom b 0 n)
   run-passed b n keys e = run-keyed t g key b e n keys ∙ places-passed b 0 n keys
 
   -- keys that were passed are in order exactly when they ascend
-  pub passed-ascend : (ps : List Position) (keys : Keys) → isOrdered (passed t g key keys ps) ≡ ascendAfter t key keys (map (keyAt t g key) ps)
+  pub passed-ascend : (ps : List Position) (keys : Keys) →
+      isOrdered (passed t g key keys ps) ≡ ascendAfter t key keys (map (keyAt t g key) ps)
   unfolding isOrdered nextKey ascendAfter ascend ascendFrom
   passed-ascend [] None = refl
   passed-ascend [] (Last at) = refl
@@ -106,17 +111,15 @@ module _ (t : List ℕ) (g : Shape) (key : ℕ) where
   passed-ascend (p ∷ ps) None = passed-ascend ps (Last (recordAt g (p .block) (p .place)))
   passed-ascend (p ∷ ps) (Last at) = go (isLess (order (range t at key) (keyAt t g key p))) (passed-ascend ps)
     where
-      go : (less : Bool) → ((keys : Keys) → isOrdered (passed t g key keys ps) ≡ ascendAfter t key keys (map (keyAt t g key) ps)) →
-          isOrdered (passed t g key (cond less (Last (recordAt g (p .block) (p .place))) Unordered) ps) ≡ (less && ascendFrom (keyAt t g key p) (map (keyAt t g key) ps))
+      go : (less : Bool) → ((keys : Keys) →
+          isOrdered (passed t g key keys ps) ≡ ascendAfter t key keys (map (keyAt t g key) ps)) →
+          isOrdered (passed t g key (cond less (Last (recordAt g (p .block) (p .place))) Unordered)
+          ps) ≡ (less && ascendFrom (keyAt t g key p) (map (keyAt t g key) ps))
       go true ih = ih (Last (recordAt g (p .block) (p .place)))
       go false ih = ih Unordered
   passed-ascend (p ∷ ps) Unordered = passed-ascend ps Unordered
 
--- ---- where records and keys stand
-
--- the records that a block counts are inside the table
-pub run-inside : (t : List ℕ) (g : Shape) → Sound t g → (b : ℕ) → 1 ≤ b → b ≤ g .blocks → (n : ℕ) → countIn t g b ≡ Records n → (key : ℕ) → key ≤ g .«record_size» → n < 65536 → RunInside t g key b n
-run-inside t g s b low high n e key short few = record { low = low; high = high; few = few; short = short; inside = record-in-file t g s b n e low high }
+-- ---- where keys stand
 
 pub last-inside : (t : List ℕ) (key at : ℕ) → KeyInside t key (Last at) → at + key ≤ length t
 last-inside t key at (last h) = h
@@ -132,14 +135,17 @@ module _ (t : List ℕ) (g : Shape) (key : ℕ) where
       go false = unordered
   next-inside Unordered at h = unordered
 
-  keys-inside : (b place n : ℕ) (keys : Keys) → ((i : ℕ) → i < place + n → recordAt g b i + key ≤ length t) → KeyInside t key keys → KeyInside t key (keysAfter t g key b place n keys)
+  keys-inside : (b place n : ℕ) (keys : Keys) → ((i : ℕ) → i < place + n → recordAt g b i + key ≤ length t) →
+      KeyInside t key keys → KeyInside t key (keysAfter t g key b place n keys)
   unfolding keysAfter
   keys-inside b place zero keys h k = k
   keys-inside b place (suc n) keys h k =
-      keys-inside b (suc place) n (nextKey t key keys (recordAt g b place)) (λ i l. h i (omega arith)) (next-inside keys (recordAt g b place) (h place (omega arith)))
+      keys-inside b (suc place) n (nextKey t key keys (recordAt g b place)) (λ i l. h i (omega arith))
+      (next-inside keys (recordAt g b place) (h place (omega arith)))
 
   -- behind a block whose records are inside the table the last key passed is inside it
-  pub run-stays : (b n : ℕ) (keys : Keys) → ((i : ℕ) → i < n → recordAt g b i + key ≤ length t) → KeyInside t key keys → KeyInside t key (runAfter t g key b n keys)
+  pub run-stays : (b n : ℕ) (keys : Keys) → ((i : ℕ) → i < n → recordAt g b i + key ≤ length t) → KeyInside t key keys →
+      KeyInside t key (runAfter t g key b n keys)
   unfolding runAfter
   run-stays b n keys h k = go (eqb key 0)
     where

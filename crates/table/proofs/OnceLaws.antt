@@ -41,15 +41,20 @@ module _ (p : Position) where
   unfolding comes placesFrom
   places-not b place zero h = refl
   places-not b place (suc n) h =
-      rw (places-not b (suc place) n (λ i l e. h (suc i) (omega arith) (omega arith)), ne-eqb place (p .place) (λ e. h 0 (omega arith) (omega arith)))
+      rw (
+        places-not b (suc place) n (λ i l e. h (suc i) (omega arith) (omega arith)),
+        ne-eqb place (p .place) (λ e. h 0 (omega arith) (omega arith)),
+      )
       (one-more (eqb b (p .block)))
 
-  places-once : (b place n : ℕ) → eqb b (p .block) ≡ true → place ≤ p .place → p .place < place + n → comes p (placesFrom b place n) ≡ 1
+  places-once : (b place n : ℕ) → eqb b (p .block) ≡ true → place ≤ p .place → p .place < place + n →
+      comes p (placesFrom b place n) ≡ 1
   unfolding comes placesFrom
   places-once b place zero e l m = absurd (omega arith)
   places-once b place (suc n) e l m = go (eqb place (p .place)) refl (places-once b (suc place) n e)
     where
-      go : (c : Bool) → eqb place (p .place) ≡ c → (suc place ≤ p .place → p .place < suc place + n → comes p (placesFrom b (suc place) n) ≡ 1)
+      go : (c : Bool) → eqb place (p .place) ≡ c →
+          (suc place ≤ p .place → p .place < suc place + n → comes p (placesFrom b (suc place) n) ≡ 1)
           → cond (eqb b (p .block) && eqb place (p .place)) 1 0 + comes p (placesFrom b (suc place) n) ≡ 1
       go true f ih = let q = eqb-true place (p .place) f in rw (e, f, places-not b (suc place) n (λ i k y. omega arith))
       go false f ih = let q = eqb-false place (p .place) f in rw (e, f, ih (omega arith) (omega arith))
@@ -69,7 +74,9 @@ module _ (p : Position) where
         ∙ rw (comes-times l bs) (ap (λ (n : ℕ). n + times (p .block) bs) (go (eqb b (p .block)) refl))
       where
         go : (c : Bool) → eqb b (p .block) ≡ c → comes p (placesFrom b 0 (held (countIn t g b))) ≡ cond c 1 0
-        go true e = places-once b 0 (held (countIn t g b)) e (omega arith) (rw (ap (λ (x : ℕ). held (countIn t g x)) (eqb-true b (p .block) e)) (omega arith))
+        go true e =
+            places-once b 0 (held (countIn t g b)) e (omega arith)
+            (rw (ap (λ (x : ℕ). held (countIn t g x)) (eqb-true b (p .block) e)) (omega arith))
         go false e = places-other b 0 (held (countIn t g b)) e
 
     -- any other does not stand there
@@ -81,14 +88,17 @@ module _ (p : Position) where
         ∙ rw (comes-never l bs, go (eqb b (p .block)) refl)
       where
         go : (c : Bool) → eqb b (p .block) ≡ c → comes p (placesFrom b 0 (held (countIn t g b))) ≡ 0
-        go true e = places-not b 0 (held (countIn t g b)) (λ i k y. let q = ap (λ (x : ℕ). held (countIn t g x)) (eqb-true b (p .block) e) in omega arith)
+        go true e =
+            places-not b 0 (held (countIn t g b)) (λ i k y. let q = ap (λ (x : ℕ). held (countIn t g x))
+            (eqb-true b (p .block) e) in omega arith)
         go false e = places-other b 0 (held (countIn t g b)) e
 
   -- ---- in an accepted table
 
   module _ (t : List ℕ) (h : Header) (a : AcceptedTable t h) where
     -- a record that a used block counts stands once in the list
-    pub record-once : times (p .block) (usedOf t h) ≡ 1 → p .place < held (countIn t (shapeOf h) (p .block)) → comes p (recordsOf t h) ≡ 1
+    pub record-once : times (p .block) (usedOf t h) ≡ 1 → p .place < held (countIn t (shapeOf h) (p .block)) →
+        comes p (recordsOf t h) ≡ 1
     record-once e l = comes-times t (shapeOf h) l (usedOf t h) ∙ e
 
     -- and none stands there twice

@@ -1,27 +1,30 @@
--- Demand 2 for tables: with a mark for each block the answer is 0 exactly when `TableRules` holds; and what an accepted table gives.
--- Assumes nothing.
-use Prim.Native.Nat.{ℕ, zero, suc, _≤_}
+-- Demand 2 for tables: with a mark for each block the answer is 0 exactly when `TableRules` holds; and what an
+-- accepted table gives. Assumes nothing.
+use Prim.Native.Nat.{ℕ, _≤_}
 use mathlib.Core.Path.{_≡_, refl, _∙_}
 use mathlib.Core.Bool.{Bool, true, false, cond}
 use mathlib.Core.List.{List}
 use native.Mathlib.Omega.{arith}
-use lib.Dec.{eqb, leb, eqb·suc-zero}
+use lib.Dec.{eqb, leb}
 use borrow.Author.Tests.{eq-eqb, eqb-true, le-leb, leb-true}
 use Rattle.words.proofs.Conjunctions.{both, join}
-use Rattle.header.specs.Header.{headerOf, mostRecords}
+use Rattle.header.specs.Header.{mostRecords, headerRefusal}
+use Rattle.header.specs.Numbers.{numbersOf}
+use Rattle.header.specs.Answers.{headerFirst}
 use Rattle.header.specs.Rules.{Accepted}
 use Rattle.header.specs.declared.Header.{Header}
 use Rattle.header.proofs.AcceptedLaws.{accepted, accepted-gives, accepted-takes}
-use Rattle.header.proofs.RuleLaws.{kept-of}
+use Rattle.header.proofs.VerdictLaws.{unless-kept, unless-zero, kept-of}
 use Rattle.blocks.specs.Shape.{shapeOf}
 use Rattle.chain.specs.Links.{linksOf, usedOf, freeOf}
 use Rattle.chain.specs.Rules.{ChainRules}
 use Rattle.chain.proofs.RuleLaws.{rules-give, rules-take, rules-length, rules-once, used-is}
 use Rattle.table.specs.Counts.{countsGood, total, countsRight, sumFits}
 use Rattle.table.specs.Keys.{keysOf, ascend, keysAscend}
-use Rattle.table.specs.Table.{tableChained, rulesAnswer, blocksAnswer, tableAnswer}
+use Rattle.table.specs.Table.{tableChained, recordsAnswer, rulesAnswer, blocksAnswer, tableAnswer}
 use Rattle.table.specs.Rules.{Ascending, TableRules, AcceptedTable}
-use Rattle.table.proofs.RecordLaws.{records-total, counts-give, counts-take, ascend-gives, ascend-takes, ascending-pairs}
+use Rattle.table.proofs.RecordLaws.{records-total, counts-give, counts-take, ascend-gives, ascend-takes}
+use Rattle.table.proofs.RecordLaws.{ascending-pairs}
 
 -- ---- the answer is 0 exactly when every test holds
 
@@ -33,7 +36,7 @@ record Kept (t : List ℕ) (h : Header) : Type 0 where
   keys : keysAscend t h (usedOf t h) ≡ true
 
 records-give : (t : List ℕ) (h : Header) → rulesAnswer t h ≡ 0 → Kept t h
-unfolding rulesAnswer
+unfolding rulesAnswer recordsAnswer
 records-give t h e =
     let p₁ = kept-of (tableChained t h) 7 _ e in
     let p₂ = kept-of (countsRight t h (usedOf t h)) 8 _ (p₁ .1) in
@@ -42,17 +45,20 @@ records-give t h e =
     record { chains = p₁ .0; counts = p₂ .0; few = p₃ .0; keys = p₄ .0 }
 
 records-take : (t : List ℕ) (h : Header) → Kept t h → rulesAnswer t h ≡ 0
-unfolding rulesAnswer
+unfolding rulesAnswer recordsAnswer
 records-take t h k = rw (k .chains, k .counts, k .few, k .keys)
 
 -- the header's number comes first
-pub accepted-first : (n rest : ℕ) → cond (eqb n 0) rest n ≡ 0 → (n ≡ 0) × (rest ≡ 0)
-accepted-first zero rest e = (refl, e)
-accepted-first (suc n) rest e = absurd (let z : suc n ≡ 0 = rw eqb·suc-zero at e in omega arith)
+answer-parts : (t : List ℕ) (room : ℕ) → tableAnswer t room ≡ 0 →
+    (headerRefusal t ≡ 0) × (blocksAnswer t (numbersOf t) room ≡ 0)
+unfolding tableAnswer headerFirst
+answer-parts t room e = unless-zero (headerRefusal t) (blocksAnswer t (numbersOf t) room) e
 
-answer-parts : (t : List ℕ) (room : ℕ) → tableAnswer t room ≡ 0 → (headerOf t .refusal ≡ 0) × (blocksAnswer t (headerOf t) room ≡ 0)
-unfolding tableAnswer
-answer-parts t room e = accepted-first (headerOf t .refusal) (blocksAnswer t (headerOf t) room) e
+-- an accepted table keeps 1 to 7: a call's answer is what comes after them
+pub header-kept : {A : Type 0} (t : List ℕ) (room : ℕ) → tableAnswer t room ≡ 0 → (refused : ℕ → A) (others : A) →
+    headerFirst t refused others ≡ others
+unfolding headerFirst
+header-kept t room e refused others = unless-kept (headerRefusal t) refused others (answer-parts t room e .0)
 
 blocks-give : (t : List ℕ) (h : Header) (room : ℕ) → blocksAnswer t h room ≡ 0 → Kept t h
 unfolding blocksAnswer
@@ -60,11 +66,13 @@ blocks-give t h room e = records-give t h (kept-of (leb (h .blocks) room) 13 (ru
 
 -- ---- the tests are the propositions
 
-keys-give : (t : List ℕ) (h : Header) → keysAscend t h (usedOf t h) ≡ true → 1 ≤ h .«key_fields» → Ascending (keysOf t h)
+keys-give : (t : List ℕ) (h : Header) → keysAscend t h (usedOf t h) ≡ true → 1 ≤ h .«key_fields» →
+    Ascending (keysOf t h)
 unfolding keysAscend
 keys-give t h e l = ascend-gives (keysOf t h) (rw (le-leb 1 (h .«key_fields») l) at e)
 
-keys-take : (t : List ℕ) (h : Header) → (1 ≤ h .«key_fields» → Ascending (keysOf t h)) → keysAscend t h (usedOf t h) ≡ true
+keys-take : (t : List ℕ) (h : Header) → (1 ≤ h .«key_fields» → Ascending (keysOf t h)) →
+    keysAscend t h (usedOf t h) ≡ true
 unfolding keysAscend
 keys-take t h k = go (leb 1 (h .«key_fields»)) refl
   where
@@ -77,10 +85,11 @@ module _ (t : List ℕ) (room : ℕ) where
   pub table-gives : tableAnswer t room ≡ 0 → TableRules t
   unfolding countsRight sumFits
   table-gives e =
-      let h = headerOf t in
+      let h = numbersOf t in
       let p = answer-parts t room e in
       let k = blocks-give t h room (p .1) in
-      let c = both {a = countsGood t (shapeOf h) (usedOf t h)} {b = eqb (total t (shapeOf h) (usedOf t h)) (h .records)} (k .counts) in
+      let c = both {a = countsGood t (shapeOf h) (usedOf t h)} {b = eqb (total t (shapeOf h) (usedOf t h)) (h .records)}
+      (k .counts) in
       record {
         header = accepted-gives t (p .0);
         used = usedOf t h;
@@ -93,19 +102,22 @@ module _ (t : List ℕ) (room : ℕ) where
       }
 
   -- a table that meets the rules is accepted, where the mark buffer has a byte for each block
-  pub table-takes : TableRules t → headerOf t .blocks ≤ room → tableAnswer t room ≡ 0
-  unfolding tableAnswer blocksAnswer countsRight sumFits
+  pub table-takes : TableRules t → numbersOf t .blocks ≤ room → tableAnswer t room ≡ 0
+  unfolding tableAnswer headerFirst blocksAnswer countsRight sumFits
   table-takes r l =
-      let h = headerOf t in
+      let h = numbersOf t in
       let z = accepted-takes t (r .header) in
       let u : usedOf t h ≡ r .used = used-is (h .blocks) (linksOf t h) (r .used) (r .free) (r .chains) in
       let k : Kept t h = record {
         chains = rules-take (h .blocks) (linksOf t h) (r .used) (r .free) (r .chains);
-        counts = rw u (join (counts-take t (shapeOf h) (r .used) (r .counts)) (eq-eqb (total t (shapeOf h) (r .used)) (h .records) (r .sum)));
+        counts =
+            rw u (join (counts-take t (shapeOf h) (r .used) (r .counts))
+            (eq-eqb (total t (shapeOf h) (r .used)) (h .records) (r .sum)));
         few = rw u (le-leb (total t (shapeOf h) (r .used)) mostRecords (r .few));
         keys = keys-take t h (λ y. rw u (r .keys y));
       } in
-      rw (eq-eqb (h .refusal) 0 z, le-leb (h .blocks) room l) (records-take t h k)
+      unless-kept (headerRefusal t) (λ (n : ℕ). n) (blocksAnswer t h room) z
+      ∙ rw (le-leb (h .blocks) room l) (records-take t h k)
 
 -- ---- what an accepted table gives
 
@@ -120,7 +132,8 @@ module _ (t : List ℕ) (h : Header) (a : Accepted t h) (room : ℕ) (e : blocks
   pub accepted-blocks : AcceptedTable t h
   unfolding countsRight
   accepted-blocks =
-      let c = both {a = countsGood t (shapeOf h) (usedOf t h)} {b = eqb (total t (shapeOf h) (usedOf t h)) (h .records)} (tests .counts) in
+      let c = both {a = countsGood t (shapeOf h) (usedOf t h)} {b = eqb (total t (shapeOf h) (usedOf t h)) (h .records)}
+      (tests .counts) in
       let s = eqb-true (total t (shapeOf h) (usedOf t h)) (h .records) (c .1) in
       record {
         header = a;
@@ -134,5 +147,6 @@ module _ (t : List ℕ) (h : Header) (a : Accepted t h) (room : ℕ) (e : blocks
         ascending = λ k. ascending-pairs (keysOf t h) (keys-give t h (tests .keys) k);
       }
 
-pub accepted-table : (t : List ℕ) (room : ℕ) → tableAnswer t room ≡ 0 → AcceptedTable t (headerOf t)
-accepted-table t room e = let p = answer-parts t room e in accepted-blocks t (headerOf t) (accepted t (p .0)) room (p .1)
+pub accepted-table : (t : List ℕ) (room : ℕ) → tableAnswer t room ≡ 0 → AcceptedTable t (numbersOf t)
+accepted-table t room e =
+    let p = answer-parts t room e in accepted-blocks t (numbersOf t) (accepted t (p .0)) room (p .1)

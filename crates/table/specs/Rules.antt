@@ -6,7 +6,8 @@ use lib.ListN.{length, getD, replicate, drop}
 use Rattle.words.specs.Order.{order}
 use Rattle.words.specs.declared.Order.the-variants.{Less}
 use Rattle.header.specs.Refusals.{chainRule, wrongCount, keyOrder, shortBuffer, tooManyRecords}
-use Rattle.header.specs.Header.{mostRecords, headerOf}
+use Rattle.header.specs.Header.{mostRecords, headerRefusal}
+use Rattle.header.specs.Numbers.{numbersOf}
 use Rattle.header.specs.Rules.{HeaderRules, Accepted}
 use Rattle.header.specs.declared.Header.{Header}
 use Rattle.blocks.specs.Shape.{shapeOf}
@@ -35,18 +36,19 @@ pub record Counted (t : List ℕ) (g : Shape) (bs : List ℕ) (p : Position) : T
 -- rules 1 to 10 and 16
 pub record TableRules (t : List ℕ) : Type 0 where
   -- 1 to 7
-  pub header : HeaderRules t
+  pub header : HeaderRules t (length t)
   -- 8: the used and the free blocks, and the rules that they keep
   pub used : List ℕ
   pub free : List ℕ
-  pub chains : ChainRules (headerOf t .blocks) (linksOf t (headerOf t)) used free
+  pub chains : ChainRules (numbersOf t .blocks) (linksOf t (numbersOf t)) used free
   -- 9: no used block's count is bad, and the counts add up to the header's
-  pub counts : (i : ℕ) → i < length used → countIn t (shapeOf (headerOf t)) (getD used i 0) ≡ Bad → ⊥
-  pub sum : total t (shapeOf (headerOf t)) used ≡ headerOf t .records
+  pub counts : (i : ℕ) → i < length used → countIn t (shapeOf (numbersOf t)) (getD used i 0) ≡ Bad → ⊥
+  pub sum : total t (shapeOf (numbersOf t)) used ≡ numbersOf t .records
   -- 16: they add up to at most 2,147,483,647
-  pub few : total t (shapeOf (headerOf t)) used ≤ mostRecords
+  pub few : total t (shapeOf (numbersOf t)) used ≤ mostRecords
   -- 10: with key fields, the keys of all records in chain order strictly ascend
-  pub keys : 1 ≤ headerOf t .«key_fields» → Ascending (keysIn t (shapeOf (headerOf t)) (headerOf t .«key_length») used)
+  pub keys : 1 ≤ numbersOf t .«key_fields» →
+      Ascending (keysIn t (shapeOf (numbersOf t)) (numbersOf t .«key_length») used)
 
 -- what an accepted table gives the crates above
 pub record AcceptedTable (t : List ℕ) (h : Header) : Type 0 where
@@ -62,21 +64,22 @@ pub record AcceptedTable (t : List ℕ) (h : Header) : Type 0 where
   pub sum : total t (shapeOf h) (usedOf t h) ≡ h .records
   pub records : length (recordsOf t h) ≡ h .records
   -- with key fields, of any two records the earlier has the lesser key
-  pub ascending : 1 ≤ h .«key_fields» → (i j : ℕ) → i < j → j < length (keysOf t h) → order (getD (keysOf t h) i []) (getD (keysOf t h) j []) ≡ Less
+  pub ascending : 1 ≤ h .«key_fields» → (i j : ℕ) → i < j → j < length (keysOf t h) →
+      order (getD (keysOf t h) i []) (getD (keysOf t h) j []) ≡ Less
 
 -- ---- the mark buffer m by the answer
 
 -- the marks of both chains; behind them the buffer stays
 abbrev pub noted : List ℕ → List ℕ → List ℕ
-noted t m = marksOf (headerOf t .blocks) (usedOf t (headerOf t)) ++ drop (headerOf t .blocks) m
+noted t m = marksOf (numbersOf t .blocks) (usedOf t (numbersOf t)) ++ drop (numbersOf t .blocks) m
 
 -- an answer, and what the buffer holds then
 pub data MarksLeft (t m : List ℕ) : ℕ → List ℕ → Type 0 where
   -- the header's number (1 to 7), and 14: unchanged
-  by-header : {a : ℕ} → headerOf t .refusal ≡ a → 1 ≤ a → MarksLeft t m a m
+  by-header : {a : ℕ} → headerRefusal t ≡ a → 1 ≤ a → MarksLeft t m a m
   by-buffer : MarksLeft t m shortBuffer m
   -- 8: the mark of every block is 0
-  by-chains : MarksLeft t m chainRule (replicate (headerOf t .blocks) unmarked ++ drop (headerOf t .blocks) m)
+  by-chains : MarksLeft t m chainRule (replicate (numbersOf t .blocks) unmarked ++ drop (numbersOf t .blocks) m)
   -- 9, 16, 10 and acceptance: 1 for a used block and 2 for a free one
   by-counts : MarksLeft t m wrongCount (noted t m)
   by-sum : MarksLeft t m tooManyRecords (noted t m)

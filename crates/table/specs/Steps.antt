@@ -1,12 +1,11 @@
--- What the functions that go along a chain, here and in the crates above, ask and answer. No rule is stated here. Definitions only.
-use Prim.Native.Nat.{ℕ, zero, suc, _+_, _≤_, _<_}
+-- What the private functions that go along a chain ask and answer. No rule is stated here. Definitions only.
+use Prim.Native.Nat.{ℕ, zero, suc, _+_, _≤_}
 use mathlib.Core.Path.{_≡_}
 use mathlib.Core.Bool.{Bool, true, false, cond, _&&_}
 use mathlib.Core.List.{List, foldl}
 use lib.Dec.{eqb, leb}
-use lib.ListN.{length, getD, replicate}
+use lib.ListN.{length, replicate}
 use Rattle.words.specs.Order.{isLess, order, range}
-use Rattle.header.specs.Refusals.{wrongCount, keyOrder, tooManyRecords, firstBroken}
 use Rattle.header.specs.Header.{mostRecords, mostBlocks}
 use Rattle.header.specs.Rules.{Accepted}
 use Rattle.header.specs.declared.Header.{Header}
@@ -15,12 +14,11 @@ use Rattle.blocks.specs.Counts.{countIn}
 use Rattle.blocks.specs.declared.Shape.{Shape}
 use Rattle.blocks.specs.declared.count.Count.{Count}
 use Rattle.blocks.specs.declared.count.Count.the-variants.{Records, Bad}
-use Rattle.chain.specs.Chain.{chainFrom, names, lastOf}
-use Rattle.chain.specs.Links.{nextOf, previousOf, usedOf}
+use Rattle.chain.specs.Chain.{names, lastOf}
+use Rattle.chain.specs.Links.{previousOf, blocksFrom, usedOf}
 use Rattle.chain.specs.Marks.{unmarked, usedMark, freeMark, marksOf}
-use Rattle.chain.specs.Rules.{Chain, Inside}
-use Rattle.chain.specs.Steps.{takesAll, marked, anyTwo}
-use Rattle.table.specs.Table.{tableChained}
+use Rattle.chain.specs.Following.{takesAll, marked, anyTwo}
+use Rattle.table.specs.Table.{tableChained, recordsAnswer}
 use Rattle.table.specs.declared.keys.Keys.{Keys}
 use Rattle.table.specs.declared.keys.Keys.the-variants.{None, Last, Unordered}
 use Rattle.table.specs.declared.tally.Tally.{Tally}
@@ -56,14 +54,6 @@ pub data KeyInside (t : List ℕ) (key : ℕ) : Keys → Type 0 where
   last : {at : ℕ} → at + key ≤ length t → KeyInside t key (Last at)
   unordered : KeyInside t key Unordered
 
--- the records of block b, n of them, stand inside the table, and a key is a part of its record
-pub record RunInside (t : List ℕ) (g : Shape) (key b n : ℕ) : Type 0 where
-  pub low : 1 ≤ b
-  pub high : b ≤ g .blocks
-  pub few : n < 65536
-  pub short : key ≤ g .«record_size»
-  pub inside : (i : ℕ) → i < n → recordAt g b i + g .«record_size» ≤ length t
-
 -- ---- blocks
 
 -- before the first block
@@ -87,19 +77,10 @@ addBlock t g key tally b = cond (tally .counted) (addCount t g key tally b (coun
 -- what a tally answers: 9, 16, 10 or 0
 unfoldable pub tallyAnswer : Tally → ℕ → ℕ
 tallyAnswer tally records =
-    firstBroken (tally .counted && eqb (tally .records) records) wrongCount
-    (firstBroken (leb (tally .records) mostRecords) tooManyRecords
-    (firstBroken (isOrdered (tally .keys)) keyOrder 0))
+    recordsAnswer (tally .counted && eqb (tally .records) records) (leb (tally .records) mostRecords)
+    (isOrdered (tally .keys))
 
 -- ---- chains
-
--- the blocks of a chain from number b on: it ends, they are in the file, no more than it has, and their counts are good. The used
--- blocks of an accepted table are so, and those that are left of them from any one on
-pub record GoodChain (t : List ℕ) (g : Shape) (b : ℕ) (bs : List ℕ) : Type 0 where
-  pub chain : Chain (nextOf t g) b bs
-  pub inside : Inside (g .blocks) bs
-  pub few : length bs ≤ g .blocks
-  pub counts : (i : ℕ) → i < length bs → countIn t g (getD bs i 0) ≡ Bad → ⊥
 
 -- what following the used chain asks: a mark for each block, and a key that is part of its record
 pub record Followable (t : List ℕ) (g : Shape) (key : ℕ) (m : List ℕ) : Type 0 where
@@ -109,16 +90,17 @@ pub record Followable (t : List ℕ) (g : Shape) (key : ℕ) (m : List ℕ) : Ty
   pub long : length m ≡ g .blocks
 
 -- what it answers, and leaves in the marks
-pub record UsedFollowed (t : List ℕ) (g : Shape) (key first : ℕ) (m : List ℕ) (r : UsedChain) (m′ : List ℕ) : Type 0 where
-  pub judged : r .whole ≡ takesAll (names (previousOf t g)) usedMark 0 (chainFrom (nextOf t g) (length m) first) m
-  pub ended : r .whole ≡ true → r .last ≡ lastOf 0 (chainFrom (nextOf t g) (length m) first)
-  pub stored : r .whole ≡ true → m′ ≡ marked usedMark (chainFrom (nextOf t g) (length m) first) m
-  pub tallied : r .whole ≡ true → r .tally ≡ foldl (addBlock t g key) nothing (chainFrom (nextOf t g) (length m) first)
+pub record UsedFollowed (t : List ℕ) (g : Shape) (key first : ℕ) (m : List ℕ) (r : UsedChain) (m′ : List ℕ)
+    : Type 0 where
+  pub judged : r .whole ≡ takesAll (names (previousOf t g)) usedMark 0 (blocksFrom t g first) m
+  pub ended : r .whole ≡ true → r .last ≡ lastOf 0 (blocksFrom t g first)
+  pub stored : r .whole ≡ true → m′ ≡ marked usedMark (blocksFrom t g first) m
+  pub tallied : r .whole ≡ true → r .tally ≡ foldl (addBlock t g key) nothing (blocksFrom t g first)
 
 -- what following the free chain answers, and leaves in the marks
 pub record FreeFollowed (t : List ℕ) (g : Shape) (first : ℕ) (m : List ℕ) (whole : Bool) (m′ : List ℕ) : Type 0 where
-  pub judged : whole ≡ takesAll anyTwo freeMark 0 (chainFrom (nextOf t g) (length m) first) m
-  pub stored : whole ≡ true → m′ ≡ marked freeMark (chainFrom (nextOf t g) (length m) first) m
+  pub judged : whole ≡ takesAll anyTwo freeMark 0 (blocksFrom t g first) m
+  pub stored : whole ≡ true → m′ ≡ marked freeMark (blocksFrom t g first) m
 
 -- what marking both chains asks: an accepted header, and a mark for each block, none of them set
 pub record Markable (t : List ℕ) (h : Header) (m : List ℕ) : Type 0 where

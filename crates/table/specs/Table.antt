@@ -1,12 +1,15 @@
--- The table check: 1 to 7, then 14 for the mark buffer, then 8, 9, 16, 10; and what it leaves in the mark buffer. Definitions only.
+-- The table check: 1 to 7, then 14 for the mark buffer, then 8, 9, 16, 10; and what it leaves in the mark buffer.
+-- Definitions only.
 use Prim.Native.Nat.{ℕ}
 use mathlib.Core.Bool.{Bool, cond}
 use mathlib.Core.List.{List, _++_}
-use lib.Dec.{eqb, leb}
+use lib.Dec.{leb}
 use lib.ListN.{length, replicate, drop}
 use Rattle.header.specs.Refusals.{chainRule, wrongCount, keyOrder, shortBuffer, tooManyRecords, firstBroken}
-use Rattle.header.specs.Header.{headerOf}
+use Rattle.header.specs.Answers.{unlessRefused, headerFirst, refusedWith, acceptedWith}
+use Rattle.header.specs.Numbers.{numbersOf}
 use Rattle.header.specs.declared.Header.{Header}
+use Rattle.header.specs.declared.HeaderAnswer.{HeaderAnswer}
 use Rattle.chain.specs.Chain.{chainsRight}
 use Rattle.chain.specs.Links.{linksOf, usedOf}
 use Rattle.chain.specs.Marks.{unmarked, marksOf}
@@ -19,13 +22,16 @@ tableChained t h = chainsRight (h .blocks) (linksOf t h)
 
 -- ---- the answer
 
--- 8, 9, 16, 10: the first broken rule's number, or 0
+-- 9, 16, 10, by the tests of the records: the first broken rule's number, or 0
+unfoldable pub recordsAnswer : Bool → Bool → Bool → ℕ
+recordsAnswer counts few keys =
+    firstBroken counts wrongCount (firstBroken few tooManyRecords (firstBroken keys keyOrder 0))
+
+-- 8 comes before them
 unfoldable pub rulesAnswer : List ℕ → Header → ℕ
 rulesAnswer t h =
     firstBroken (tableChained t h) chainRule
-    (firstBroken (countsRight t h (usedOf t h)) wrongCount
-    (firstBroken (sumFits t h (usedOf t h)) tooManyRecords
-    (firstBroken (keysAscend t h (usedOf t h)) keyOrder 0)))
+    (recordsAnswer (countsRight t h (usedOf t h)) (sumFits t h (usedOf t h)) (keysAscend t h (usedOf t h)))
 
 -- 14 comes before them: a mark buffer of `room` bytes has one for each block
 unfoldable pub blocksAnswer : List ℕ → Header → ℕ → ℕ
@@ -33,7 +39,15 @@ blocksAnswer t h room = firstBroken (leb (h .blocks) room) shortBuffer (rulesAns
 
 -- what checking a table answers, for any bytes and a mark buffer of `room` bytes
 unfoldable pub tableAnswer : List ℕ → ℕ → ℕ
-tableAnswer t room = cond (eqb (headerOf t .refusal) 0) (blocksAnswer t (headerOf t) room) (headerOf t .refusal)
+tableAnswer t room = headerFirst t (λ (number : ℕ). number) (blocksAnswer t (numbersOf t) room)
+
+-- a call's answer behind the table check
+unfoldable pub tableFirst : {A : Type 0} → List ℕ → ℕ → (ℕ → A) → A → A
+tableFirst t room refused others = unlessRefused (tableAnswer t room) refused others
+
+-- what the table check answers with the header's numbers, which are 0 where it refuses
+unfoldable pub checkedHeader : List ℕ → ℕ → HeaderAnswer
+checkedHeader t room = tableFirst t room refusedWith (acceptedWith (numbersOf t))
 
 -- ---- the mark buffer
 
@@ -47,4 +61,4 @@ bufferAfter t h m = cond (leb (h .blocks) (length m)) (blockMarks t h ++ drop (h
 
 -- what checking a table leaves in the mark buffer: with 1 to 7 it is unchanged
 unfoldable pub tableMarks : List ℕ → List ℕ → List ℕ
-tableMarks t m = cond (eqb (headerOf t .refusal) 0) (bufferAfter t (headerOf t) m) m
+tableMarks t m = headerFirst t (λ (number : ℕ). m) (bufferAfter t (numbersOf t) m)

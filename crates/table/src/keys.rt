@@ -3,8 +3,9 @@
 ghost use mathlib.Core.Path.{_≡_};
 ghost use Prim.Native.Nat.{_+_, _-_, _≤_};
 ghost use lib.ListN.{length};
+ghost use Rattle.blocks.specs.Shape.{RunInside};
 ghost use Rattle.table.specs.declared.keys.Keys.the-variants.{Last};
-ghost use Rattle.table.specs.Steps.{KeyInside, RunInside, isOrdered, keysAfter, runAfter};
+ghost use Rattle.table.specs.Steps.{KeyInside, isOrdered, keysAfter, runAfter};
 use blocks::Shape;
 
 // The keys passed so far.

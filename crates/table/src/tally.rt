@@ -53,7 +53,8 @@ impl Tally {
 // The tally with one block more. Behind a bad count no block is looked at.
 pub fn with_block(table: &[u8], shape: Shape, key: usize, tally: Tally, block: usize) -> Tally
     requires { ⌜ (1 ≤ block) × (block ≤ shape .blocks) × Sound (now table) shape ⌝ }
-    requires { ⌜ (key ≤ shape .«record_size») × (tally .records + 65535 ≤ 4294967295) × KeyInside (now table) key (tally .keys) ⌝ }
+    requires { ⌜ (key ≤ shape .«record_size») × (tally .records + 65535 ≤ 4294967295) ⌝ }
+    requires { ⌜ KeyInside (now table) key (tally .keys) ⌝ }
     ensures { λ r. ⌜ r ≡ addBlock (now (table .entry)) shape key tally block ⌝ }
 {
     if !tally.counted {

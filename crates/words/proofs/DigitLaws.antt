@@ -1,4 +1,5 @@
--- The bytes of a number, high byte first: how many, which number they make, and that they give the bytes back. Assumes nothing.
+-- The bytes of a number, high byte first: how many, which number they make, and that they give the bytes back.
+-- Assumes nothing.
 use mathlib.Core.Path.{_≡_, refl, ap, _∙_}
 use mathlib.Core.List.{List, [], _∷_, _++_, append-assoc}
 use Prim.Native.Nat.{ℕ, zero, suc, _+_, _-_, _*_, _/_, _%_, _^_, _≤_, _<_}
@@ -21,8 +22,10 @@ unfolding digits big
 big-digits zero n rest h = omega arith
 big-digits (suc w) n rest h =
     let p = pow-suc 256 w in
-    let a : (digits w (n / 256) ++ (n % 256 ∷ [])) ++ rest ≡ digits w (n / 256) ++ n % 256 ∷ rest = append-assoc (digits w (n / 256)) (n % 256 ∷ []) rest in
-    let b : byte (digits w (n / 256) ++ n % 256 ∷ rest) w ≡ n % 256 = getD-at (digits w (n / 256)) (n % 256) rest 0 w (digits-length w (n / 256)) in
+    let a : (digits w (n / 256) ++ (n % 256 ∷ [])) ++ rest ≡ digits w (n / 256) ++ n % 256 ∷ rest = append-assoc
+    (digits w (n / 256)) (n % 256 ∷ []) rest in
+    let b : byte (digits w (n / 256) ++ n % 256 ∷ rest) w ≡ n % 256 = getD-at (digits w (n / 256)) (n % 256) rest 0 w
+    (digits-length w (n / 256)) in
     rw (a, zero-add, b, big-digits w (n / 256) (n % 256 ∷ rest) (omega arith)) (omega arith)
 
 -- the bytes of the number at an offset are the bytes there
@@ -32,7 +35,8 @@ digits-big s at zero h l = refl
 digits-big s at (suc w) h l =
     let q : (big s at w * 256 + byte s (at + w)) / 256 ≡ big s at w = omega (arith, h (at + w)) in
     let r : (big s at w * 256 + byte s (at + w)) % 256 ≡ byte s (at + w) = omega (arith, h (at + w)) in
-    let e : take (suc w) (drop at s) ≡ take w (drop at s) ++ (getD (drop at s) w 0 ∷ []) = take-suc (drop at s) w 0 (rw (length-drop at s) (omega arith)) in
+    let e : take (suc w) (drop at s) ≡ take w (drop at s) ++ (getD (drop at s) w 0 ∷ []) = take-suc (drop at s) w 0
+    (rw (length-drop at s) (omega arith)) in
     rw (q, r, digits-big s at w h (omega arith), e, getD-drop at s w 0)
 
 -- the number 0 has zero bytes only
@@ -52,4 +56,9 @@ unfolding digits
 write-step buf zero m p h = absurd (omega arith)
 write-step buf (suc j) m p h =
     rw sub-one
-    (rw (drop-cons (set buf j (m % 256)) j 0 (simp length-set h), getD-set-same buf j (m % 256) 0 h, drop-set-lt (suc j) buf j (m % 256) (omega arith), append-assoc))
+    (rw (
+      drop-cons (set buf j (m % 256)) j 0 (simp length-set h),
+      getD-set-same buf j (m % 256) 0 h,
+      drop-set-lt (suc j) buf j (m % 256) (omega arith),
+      append-assoc,
+    ))

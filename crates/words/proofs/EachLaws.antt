@@ -30,7 +30,8 @@ module _ (test : ℕ → Bool) where
   pub each-takes : (n : ℕ) → ((i : ℕ) → i < n → test i ≡ true) → each test n ≡ true
   unfolding each
   each-takes zero h = refl
-  each-takes (suc n) h = and-eq-true-iff (each test n) (test n) .1 (each-takes n (λ i l. h i (omega arith)), h n (omega arith))
+  each-takes (suc n) h =
+      and-eq-true-iff (each test n) (test n) .1 (each-takes n (λ i l. h i (omega arith)), h n (omega arith))
 
   -- one index that fails is enough
   pub each-fails : (n i : ℕ) → i < n → test i ≡ false → each test n ≡ false

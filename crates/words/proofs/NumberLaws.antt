@@ -1,9 +1,10 @@
--- Laws of numbers of w bytes, each once over the width: a number is below 256 ^ w, its bytes by name, and how two numbers join.
--- Assumes nothing.
+-- Laws of numbers of w bytes, each once over the width: a number is below 256 ^ w, its bytes by name, and how two
+-- numbers join. Assumes nothing.
 use mathlib.Core.Path.{_≡_, refl, sym, ap, _∙_}
 use mathlib.Core.List.{List}
 use Prim.Native.Nat.{ℕ, zero, suc, _+_, _*_, _/_, _%_, _^_, _≤_, _<_}
-use native.Mathlib.Nat.{pow-suc, pow-le-pow-right, mul-le-mul-left, mul-add, mul-assoc, add-zero, add-suc, add-assoc, lt-of-lt-of-le, add-mul-div-left, div-eq-of-lt, zero-add, mod-lt}
+use native.Mathlib.Nat.{pow-suc, pow-le-pow-right, mul-le-mul-left, mul-add, mul-assoc, add-zero, add-suc, add-assoc}
+use native.Mathlib.Nat.{lt-of-lt-of-le, add-mul-div-left, div-eq-of-lt, zero-add, mod-lt}
 use native.Mathlib.Numerals.{add-one}
 use native.Mathlib.Omega.{arith}
 use lib.Dec.{lit<}
@@ -54,7 +55,8 @@ unfolding big
 big-step s at i = rw add-one
 
 -- the same bytes make the same number
-pub big-same : (s t : List ℕ) (at to w : ℕ) → ((i : ℕ) → i < w → byte s (at + i) ≡ byte t (to + i)) → big s at w ≡ big t to w
+pub big-same : (s t : List ℕ) (at to w : ℕ) → ((i : ℕ) → i < w → byte s (at + i) ≡ byte t (to + i)) →
+    big s at w ≡ big t to w
 unfolding big
 big-same s t at to zero h = refl
 big-same s t at to (suc w) h = rw (big-same s t at to w (λ i l. h i (omega arith)), h w (omega arith))
@@ -66,7 +68,8 @@ byte-of s at j r h =
     let x = little s (at + j) (suc r) in
     let p : 0 < 256 ^ j = omega (arith, little-lt s at j h) in
     let q : little s at (j + suc r) / 256 ^ j ≡ x =
-    ap (λ (n : ℕ). n / 256 ^ j) (little-join s at j (suc r)) ∙ add-mul-div-left (little s at j) x p ∙ ap (λ (n : ℕ). n + x) (div-eq-of-lt (little-lt s at j h)) ∙ zero-add x in
+    ap (λ (n : ℕ). n / 256 ^ j) (little-join s at j (suc r)) ∙ add-mul-div-left (little s at j) x p
+    ∙ ap (λ (n : ℕ). n + x) (div-eq-of-lt (little-lt s at j h)) ∙ zero-add x in
     let e : suc r ≡ 1 + r = omega arith in
     let first : little s (at + j) 1 ≡ byte s (at + j) = rw add-zero (omega arith) in
     let f = ap (little s (at + j)) e ∙ little-join s (at + j) 1 r in
@@ -89,12 +92,15 @@ turned-is s at h =
 
 -- eight bytes by name are below 256 ^ 8
 eight-lt : (a b c d e f g h : ℕ) → a < 256 → b < 256 → c < 256 → d < 256 → e < 256 → f < 256 → g < 256 → h < 256
-    → a * 72057594037927936 + b * 281474976710656 + (c * 1099511627776 + d * 4294967296) + (e * 16777216 + f * 65536 + (g * 256 + h)) < 2 ^ 64
+    → a * 72057594037927936 + b * 281474976710656 + (c * 1099511627776 + d * 4294967296)
+    + (e * 16777216 + f * 65536 + (g * 256 + h)) < 2 ^ 64
 eight-lt a b c d e f g h a' b' c' d' e' f' g' h' = omega arith
 
 -- so what is turned round is a number of eight bytes
 pub turned-lt : (n : ℕ) → n < 2 ^ 64 → turnedRound n < 2 ^ 64
 unfolding turnedRound
 turned-lt n l =
-    eight-lt (n % 256) (n / 256 % 256) (n / 65536 % 256) (n / 16777216 % 256) (n / 4294967296 % 256) (n / 1099511627776 % 256) (n / 281474976710656 % 256) (n / 72057594037927936)
-    (mod-lt _ (lit< tt)) (mod-lt _ (lit< tt)) (mod-lt _ (lit< tt)) (mod-lt _ (lit< tt)) (mod-lt _ (lit< tt)) (mod-lt _ (lit< tt)) (mod-lt _ (lit< tt)) (omega (arith, l))
+    eight-lt (n % 256) (n / 256 % 256) (n / 65536 % 256) (n / 16777216 % 256) (n / 4294967296 % 256)
+    (n / 1099511627776 % 256) (n / 281474976710656 % 256) (n / 72057594037927936)
+    (mod-lt _ (lit< tt)) (mod-lt _ (lit< tt)) (mod-lt _ (lit< tt)) (mod-lt _ (lit< tt)) (mod-lt _ (lit< tt))
+    (mod-lt _ (lit< tt)) (mod-lt _ (lit< tt)) (omega (arith, l))

@@ -22,9 +22,11 @@ order-behind [] a b = refl
 order-behind (x ∷ p) a b = order-rest x (p ++ a) (p ++ b) ∙ order-behind p a b
 
 -- one byte more of a range
-range-more : (s : List ℕ) (at w : ℕ) → at + suc w ≤ length s → range s at (suc w) ≡ range s at w ++ (byte s (at + w) ∷ [])
+range-more : (s : List ℕ) (at w : ℕ) → at + suc w ≤ length s →
+    range s at (suc w) ≡ range s at w ++ (byte s (at + w) ∷ [])
 range-more s at w l =
-    take-suc (drop at s) w 0 (rw (length-drop at s) (omega arith)) ∙ ap (λ (b : ℕ). range s at w ++ (b ∷ [])) (getD-drop at s w 0)
+    take-suc (drop at s) w 0 (rw (length-drop at s) (omega arith))
+    ∙ ap (λ (b : ℕ). range s at w ++ (b ∷ [])) (getD-drop at s w 0)
 
 module _ (s t : List ℕ) (at to : ℕ) (bytes : Bytes s) (others : Bytes t) where
   -- the same number is of the same bytes
@@ -32,7 +34,8 @@ module _ (s t : List ℕ) (at to : ℕ) (bytes : Bytes s) (others : Bytes t) whe
   big-equal w k l e = sym (digits-big s at w bytes k) ∙ ap (digits w) e ∙ digits-big t to w others l
 
   -- of the lesser number the bytes are less, whatever stands behind them
-  big-less : (w : ℕ) → at + w ≤ length s → to + w ≤ length t → big s at w < big t to w → (xs ys : List ℕ) → order (range s at w ++ xs) (range t to w ++ ys) ≡ Less
+  big-less : (w : ℕ) → at + w ≤ length s → to + w ≤ length t → big s at w < big t to w → (xs ys : List ℕ) →
+      order (range s at w ++ xs) (range t to w ++ ys) ≡ Less
   unfolding big order
   big-less zero k l h xs ys = absurd (omega arith)
   big-less (suc w) k l h xs ys =
@@ -40,37 +43,49 @@ module _ (s t : List ℕ) (at to : ℕ) (bytes : Bytes s) (others : Bytes t) whe
       let y = byte t (to + w) in
       let a = bytes (at + w) in
       let b = others (to + w) in
-      rw (range-more s at w k, range-more t to w l, append-assoc (range s at w) (x ∷ []) xs, append-assoc (range t to w) (y ∷ []) ys)
+      rw (
+        range-more s at w k,
+        range-more t to w l,
+        append-assoc (range s at w) (x ∷ []) xs,
+        append-assoc (range t to w) (y ∷ []) ys,
+      )
       (⊎-elim
       (λ (m : big s at w < big t to w). big-less w (omega arith) (omega arith) m (x ∷ xs) (y ∷ ys))
       (λ (m : big t to w ≤ big s at w).
       let e : big s at w ≡ big t to w = omega (arith, h, m, a, b) in
       let below : x < y = omega (arith, h, e) in
-      rw (big-equal w (omega arith) (omega arith) e) (order-behind (range t to w) (x ∷ xs) (y ∷ ys) ∙ rw (lt-ltb x y below)))
+      rw (big-equal w (omega arith) (omega arith) e)
+      (order-behind (range t to w) (x ∷ xs) (y ∷ ys) ∙ rw (lt-ltb x y below)))
       (lt-or-ge (big s at w) (big t to w)))
 
 -- ---- eight bytes of what is left of two ranges
 
-module _ (a b : List ℕ) (p q n i : ℕ) (h : 8 ≤ n - i) (j : p + n ≤ length a) (k : q + n ≤ length b) (bytes : Bytes a) (others : Bytes b) where
+module _ (a b : List ℕ) (p q n i : ℕ) (h : 8 ≤ n - i) (j : p + n ≤ length a) (k : q + n ≤ length b) (bytes : Bytes a)
+    (others : Bytes b) where
   eight-first : (s : List ℕ) (at : ℕ) → rest s at n i ≡ range s (at + i) 8 ++ rest s at n (i + 8)
   eight-first s at =
       let e : n - i ≡ 8 + (n - (i + 8)) = omega arith in
       let f : at + i + 8 ≡ at + (i + 8) = omega arith in
-      ap (range s (at + i)) e ∙ range-join s (at + i) 8 (n - (i + 8)) ∙ ap (λ (x : ℕ). range s (at + i) 8 ++ range s x (n - (i + 8))) f
+      ap (range s (at + i)) e ∙ range-join s (at + i) 8 (n - (i + 8))
+      ∙ ap (λ (x : ℕ). range s (at + i) 8 ++ range s x (n - (i + 8))) f
 
   pub eight-less : big a (p + i) 8 < big b (q + i) 8 → order (rest a p n i) (rest b q n i) ≡ Less
   eight-less l =
       rw (eight-first a p, eight-first b q)
-      (big-less a b (p + i) (q + i) bytes others 8 (omega arith) (omega arith) l (rest a p n (i + 8)) (rest b q n (i + 8)))
+      (big-less a b (p + i) (q + i) bytes others 8 (omega arith) (omega arith) l (rest a p n (i + 8))
+      (rest b q n (i + 8)))
 
   pub eight-more : big b (q + i) 8 < big a (p + i) 8 → order (rest a p n i) (rest b q n i) ≡ More
   unfolding turned
   eight-more l =
       rw (eight-first a p, eight-first b q)
       (order-turned (range b (q + i) 8 ++ rest b q n (i + 8)) (range a (p + i) 8 ++ rest a p n (i + 8))
-      ∙ ap turned (big-less b a (q + i) (p + i) others bytes 8 (omega arith) (omega arith) l (rest b q n (i + 8)) (rest a p n (i + 8))))
+      ∙ ap turned (big-less b a (q + i) (p + i) others bytes 8 (omega arith) (omega arith) l (rest b q n (i + 8))
+      (rest a p n (i + 8))))
 
-  pub eight-same : big b (q + i) 8 ≤ big a (p + i) 8 → big a (p + i) 8 ≤ big b (q + i) 8 → order (rest a p n i) (rest b q n i) ≡ order (rest a p n (i + 8)) (rest b q n (i + 8))
+  pub eight-same : big b (q + i) 8 ≤ big a (p + i) 8 → big a (p + i) 8 ≤ big b (q + i) 8 →
+      order (rest a p n i) (rest b q n i) ≡ order (rest a p n (i + 8)) (rest b q n (i + 8))
   eight-same l m =
       rw (eight-first a p, eight-first b q)
-      (rw (big-equal a b (p + i) (q + i) bytes others 8 (omega arith) (omega arith) (le-antisymm m l)) (order-behind (range b (q + i) 8) (rest a p n (i + 8)) (rest b q n (i + 8))))
+      (rw (big-equal a b (p + i) (q + i) bytes others 8 (omega arith) (omega arith) (le-antisymm m l))
+      (order-behind (range b (q + i) 8) (rest a p n (i + 8)) (rest b q n (i + 8))))

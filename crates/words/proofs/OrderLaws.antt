@@ -79,7 +79,8 @@ order-same [] (y ∷ ys) h = absurd (less≢same h)
 order-same (x ∷ xs) [] h = absurd (more≢same h)
 order-same (x ∷ xs) (y ∷ ys) h = go (first x y) h (order-same xs ys)
   where
-    go : {p q : Bool} → First x y p q → cond p Less (cond q More (order xs ys)) ≡ Same → (order xs ys ≡ Same → xs ≡ ys) → _≡_ {A = List ℕ} (x ∷ xs) (y ∷ ys)
+    go : {p q : Bool} → First x y p q → cond p Less (cond q More (order xs ys)) ≡ Same →
+        (order xs ys ≡ Same → xs ≡ ys) → _≡_ {A = List ℕ} (x ∷ xs) (y ∷ ys)
     go (below l) w ih = absurd (less≢same w)
     go (above l) w ih = absurd (more≢same w)
     go (level e) w ih = let r : xs ≡ ys = ih w in cc
@@ -105,7 +106,8 @@ order-turned [] (y ∷ ys) = refl
 order-turned (x ∷ xs) [] = refl
 order-turned (x ∷ xs) (y ∷ ys) = go (first x y) (order-turned xs ys)
   where
-    go : {p q : Bool} → First x y p q → order ys xs ≡ turned (order xs ys) → cond q Less (cond p More (order ys xs)) ≡ turned (cond p Less (cond q More (order xs ys)))
+    go : {p q : Bool} → First x y p q → order ys xs ≡ turned (order xs ys) →
+        cond q Less (cond p More (order ys xs)) ≡ turned (cond p Less (cond q More (order xs ys)))
     go (below l) ih = refl
     go (above l) ih = refl
     go (level e) ih = ih
@@ -129,7 +131,9 @@ less-trans (x ∷ xs) [] c p q = absurd (more≢less p)
 less-trans (x ∷ xs) (y ∷ ys) [] p q = absurd (more≢less q)
 less-trans (x ∷ xs) (y ∷ ys) (z ∷ zs) p q = go (less-trans xs ys zs) (first x y) p (first y z) q
   where
-    go : (order xs ys ≡ Less → order ys zs ≡ Less → order xs zs ≡ Less) → {p q : Bool} → First x y p q → cond p Less (cond q More (order xs ys)) ≡ Less → {r s : Bool} → First y z r s → cond r Less (cond s More (order ys zs)) ≡ Less → order (x ∷ xs) (z ∷ zs) ≡ Less
+    go : (order xs ys ≡ Less → order ys zs ≡ Less → order xs zs ≡ Less) → {p q : Bool} → First x y p q →
+        cond p Less (cond q More (order xs ys)) ≡ Less → {r s : Bool} → First y z r s →
+        cond r Less (cond s More (order ys zs)) ≡ Less → order (x ∷ xs) (z ∷ zs) ≡ Less
     go ih (above l) w g v = absurd (more≢less w)
     go ih (below l) w (above m) v = absurd (more≢less v)
     go ih (level l) w (above m) v = absurd (more≢less v)

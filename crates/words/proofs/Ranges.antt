@@ -28,7 +28,8 @@ pub range-join : (s : List ℕ) (at n m : ℕ) → range s at (n + m) ≡ range 
 range-join s at n m = take-add n m (drop at s) ∙ ap (λ (l : List ℕ). range s at n ++ take m l) (drop-drop n at s)
 
 -- ranges with the same bytes are the same
-pub range-same : (s t : List ℕ) (at to n : ℕ) → at + n ≤ length s → to + n ≤ length t → ((i : ℕ) → i < n → byte s (at + i) ≡ byte t (to + i)) → range s at n ≡ range t to n
+pub range-same : (s t : List ℕ) (at to n : ℕ) → at + n ≤ length s → to + n ≤ length t →
+    ((i : ℕ) → i < n → byte s (at + i) ≡ byte t (to + i)) → range s at n ≡ range t to n
 range-same s t at to n k l h =
     let a = range-length s at n k in
     ext-getD 0 (range s at n) (range t to n) (a ∙ sym (range-length t to n l))
@@ -54,7 +55,8 @@ pub rest-end : (s : List ℕ) (p n : ℕ) → rest s p n n ≡ []
 rest-end s p n = rw (sub-self n)
 
 module _ (a b : List ℕ) (p q n i : ℕ) (h : i < n) (j : p + n ≤ length a) (k : q + n ≤ length b) where
-  step : order (rest a p n i) (rest b q n i) ≡ cond (ltb (byte a (p + i)) (byte b (q + i))) Less (cond (ltb (byte b (q + i)) (byte a (p + i))) More (order (rest a p n (i + 1)) (rest b q n (i + 1))))
+  step : order (rest a p n i) (rest b q n i) ≡ cond (ltb (byte a (p + i)) (byte b (q + i))) Less
+      (cond (ltb (byte b (q + i)) (byte a (p + i))) More (order (rest a p n (i + 1)) (rest b q n (i + 1))))
   unfolding order
   step = rw (rest-cons a p n i h j, rest-cons b q n i h k)
 
@@ -66,5 +68,6 @@ module _ (a b : List ℕ) (p q n i : ℕ) (h : i < n) (j : p + n ≤ length a) (
       let le : byte b (q + i) ≤ byte a (p + i) = omega arith in
       step ∙ rw (le-ltb (byte a (p + i)) (byte b (q + i)) le, lt-ltb (byte b (q + i)) (byte a (p + i)) l)
 
-  pub step-same : byte b (q + i) ≤ byte a (p + i) → byte a (p + i) ≤ byte b (q + i) → order (rest a p n i) (rest b q n i) ≡ order (rest a p n (i + 1)) (rest b q n (i + 1))
+  pub step-same : byte b (q + i) ≤ byte a (p + i) → byte a (p + i) ≤ byte b (q + i) →
+      order (rest a p n i) (rest b q n i) ≡ order (rest a p n (i + 1)) (rest b q n (i + 1))
   step-same l m = step ∙ rw (le-ltb (byte a (p + i)) (byte b (q + i)) l, le-ltb (byte b (q + i)) (byte a (p + i)) m)

@@ -75,6 +75,8 @@ less-from n (suc top) h = rw (le-ltb n (suc top) h)
 pub signed-complemented : (top n : ℕ) → n < top + top → signed top (complemented top n) ≡ pos n -ℤ pos top
 signed-complemented top n h =
     ⊎-elim
-    (λ (l : n < top). rw (complemented-below top n l, signed-from top (n + top) (omega arith)) (ap negsuc (omega arith) ∙ sym (less-below n top l)))
-    (λ (l : top ≤ n). rw (complemented-from top n l, signed-below top (n - top) (omega arith)) (sym (less-from n top l)))
+    (λ (l : n < top). rw (complemented-below top n l, signed-from top (n + top) (omega arith))
+    (ap negsuc (omega arith) ∙ sym (less-below n top l)))
+    (λ (l : top ≤ n). rw (complemented-from top n l, signed-below top (n - top) (omega arith))
+    (sym (less-from n top l)))
     (lt-or-ge n top)

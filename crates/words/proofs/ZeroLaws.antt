@@ -1,4 +1,5 @@
--- Zero bytes: the bytes before the first zero, a number whose bytes are all zero, and zeros behind other bytes. Assumes nothing.
+-- Zero bytes: the bytes before the first zero, a number whose bytes are all zero, and zeros behind other bytes.
+-- Assumes nothing.
 use Prim.Native.Nat.{ℕ, zero, suc, _+_, _*_, _≤_, _<_}
 use mathlib.Core.Path.{_≡_, refl, sym, ap, _∙_}
 use mathlib.Core.Bool.{Bool, true, false, cond, not, _&&_}
@@ -25,7 +26,8 @@ unfolding beforeZero
 before-nonzero t at zero i l z = not-suc-le-zero l
 before-nonzero t at (suc m) i l z = go (eqb (byte t at) 0) refl i l z (before-nonzero t (suc at) m)
   where
-    go : (b : Bool) → eqb (byte t at) 0 ≡ b → (i : ℕ) → i < cond b 0 (suc (beforeZero t (suc at) m)) → byte t (at + i) ≡ 0 → ((j : ℕ) → j < beforeZero t (suc at) m → byte t (suc at + j) ≡ 0 → ⊥) → ⊥
+    go : (b : Bool) → eqb (byte t at) 0 ≡ b → (i : ℕ) → i < cond b 0 (suc (beforeZero t (suc at) m)) →
+        byte t (at + i) ≡ 0 → ((j : ℕ) → j < beforeZero t (suc at) m → byte t (suc at + j) ≡ 0 → ⊥) → ⊥
     go true e i l z ih = not-suc-le-zero l
     go false e zero l z ih = eqb-false (byte t at) 0 e (rw add-zero at z)
     go false e (suc j) l z ih = let f : at + suc j ≡ suc at + j = omega arith in ih j (omega arith) (rw f at z)
@@ -35,9 +37,13 @@ unfolding beforeZero
 before-zero t at zero l = absurd (not-suc-le-zero l)
 before-zero t at (suc m) l = go (eqb (byte t at) 0) refl l (before-zero t (suc at) m)
   where
-    go : (b : Bool) → eqb (byte t at) 0 ≡ b → cond b 0 (suc (beforeZero t (suc at) m)) < suc m → (beforeZero t (suc at) m < m → byte t (suc at + beforeZero t (suc at) m) ≡ 0) → byte t (at + cond b 0 (suc (beforeZero t (suc at) m))) ≡ 0
+    go : (b : Bool) → eqb (byte t at) 0 ≡ b → cond b 0 (suc (beforeZero t (suc at) m)) < suc m →
+        (beforeZero t (suc at) m < m → byte t (suc at + beforeZero t (suc at) m) ≡ 0) →
+        byte t (at + cond b 0 (suc (beforeZero t (suc at) m))) ≡ 0
     go true e l ih = rw add-zero (eqb-true (byte t at) 0 e)
-    go false e l ih = let f : at + suc (beforeZero t (suc at) m) ≡ suc at + beforeZero t (suc at) m = omega arith in rw f (ih (omega arith))
+    go false e l ih =
+        let f : at + suc (beforeZero t (suc at) m) ≡ suc at + beforeZero t (suc at) m = omega arith in rw f
+        (ih (omega arith))
 
 pub before-most : (t : List ℕ) (at m : ℕ) → beforeZero t at m ≤ m
 unfolding beforeZero
@@ -59,14 +65,16 @@ nonzero-none t at j l z = not-suc-le-zero l
 
 pub nonzero-more : (t : List ℕ) (at i : ℕ) → Nonzero t at i → (byte t (at + i) ≡ 0 → ⊥) → Nonzero t at (i + 1)
 nonzero-more t at i h k j l z =
-    ⊎-elim (λ (e : j ≡ i). k (ap (λ (x : ℕ). byte t (at + x)) (sym e) ∙ z)) (λ m. h j m z) (eq-or-lt-of-le {n = j} {m = i} (omega arith))
+    ⊎-elim (λ (e : j ≡ i). k (ap (λ (x : ℕ). byte t (at + x)) (sym e) ∙ z)) (λ m. h j m z)
+    (eq-or-lt-of-le {n = j} {m = i} (omega arith))
 
 -- bytes that are no zeros are no more than stand before the first zero
 pub before-least : (t : List ℕ) (at m i : ℕ) → i ≤ m → Nonzero t at i → i ≤ beforeZero t at m
 before-least t at m i l h = go (ltb (beforeZero t at m) i) refl
   where
     go : (b : Bool) → ltb (beforeZero t at m) i ≡ b → i ≤ beforeZero t at m
-    go true e = let k = ltb-true (beforeZero t at m) i e in absurd (h (beforeZero t at m) k (before-zero t at m (omega arith)))
+    go true e =
+        let k = ltb-true (beforeZero t at m) i e in absurd (h (beforeZero t at m) k (before-zero t at m (omega arith)))
     go false e = ltb-false (beforeZero t at m) i e
 
 -- as many bytes that are no zeros, and then a zero
@@ -88,15 +96,18 @@ none-zero s n = go (eqb (beforeZero s 0 n) n) refl
     go : (b : Bool) → eqb (beforeZero s 0 n) n ≡ b → each (λ (i : ℕ). not (eqb (byte s i) 0)) n ≡ b
     go true e =
         let f = eqb-true (beforeZero s 0 n) n e in
-        each-takes (λ (i : ℕ). not (eqb (byte s i) 0)) n (λ i l. rw (ne-eqb (byte s i) 0 (λ z. before-nonzero s 0 n i (rw f l) (rw zero-add z))))
+        each-takes (λ (i : ℕ). not (eqb (byte s i) 0)) n
+        (λ i l. rw (ne-eqb (byte s i) 0 (λ z. before-nonzero s 0 n i (rw f l) (rw zero-add z))))
     go false e =
         let m = before-most s 0 n in
         let d : beforeZero s 0 n ≡ n → ⊥ = eqb-false (beforeZero s 0 n) n e in
         let l : beforeZero s 0 n < n = lt-of-le-ne m d in
-        each-fails (λ (i : ℕ). not (eqb (byte s i) 0)) n (beforeZero s 0 n) l (rw (eq-eqb (byte s (beforeZero s 0 n)) 0 (rw zero-add at (before-zero s 0 n l))))
+        each-fails (λ (i : ℕ). not (eqb (byte s i) 0)) n (beforeZero s 0 n) l
+        (rw (eq-eqb (byte s (beforeZero s 0 n)) 0 (rw zero-add at (before-zero s 0 n l))))
 
 -- bytes that are the same have as many before the first zero
-pub before-same : (s t : List ℕ) (at to m : ℕ) → ((i : ℕ) → i < m → byte s (at + i) ≡ byte t (to + i)) → beforeZero s at m ≡ beforeZero t to m
+pub before-same : (s t : List ℕ) (at to m : ℕ) → ((i : ℕ) → i < m → byte s (at + i) ≡ byte t (to + i)) →
+    beforeZero s at m ≡ beforeZero t to m
 unfolding beforeZero
 before-same s t at to zero h = refl
 before-same s t at to (suc m) h =
@@ -110,7 +121,8 @@ before-same s t at to (suc m) h =
     rw (e, f)
 
 -- and are all zero or not alike
-pub zero-same : (s t : List ℕ) (at to n : ℕ) → ((i : ℕ) → i < n → byte s (at + i) ≡ byte t (to + i)) → allZero s at n ≡ allZero t to n
+pub zero-same : (s t : List ℕ) (at to n : ℕ) → ((i : ℕ) → i < n → byte s (at + i) ≡ byte t (to + i)) →
+    allZero s at n ≡ allZero t to n
 unfolding each
 zero-same s t at to zero h = refl
 zero-same s t at to (suc n) h = rw (zero-same s t at to n (λ i l. h i (omega arith)), h n (omega arith))
@@ -120,7 +132,8 @@ zero-same s t at to (suc n) h = rw (zero-same s t at to n (λ i l. h i (omega ar
 pub zero-number : (s : List ℕ) (at w : ℕ) → allZero s at w ≡ eqb (big s at w) 0
 unfolding each big
 zero-number s at zero = refl
-zero-number s at (suc w) = ap (λ (b : Bool). b && eqb (byte s (at + w)) 0) (zero-number s at w) ∙ go (big s at w) (byte s (at + w))
+zero-number s at (suc w) =
+    ap (λ (b : Bool). b && eqb (byte s (at + w)) 0) (zero-number s at w) ∙ go (big s at w) (byte s (at + w))
   where
     go : (n b : ℕ) → (eqb n 0 && eqb b 0) ≡ eqb (n * 256 + b) 0
     go zero b = let e : 0 * 256 + b ≡ b = omega arith in rw e
@@ -138,7 +151,8 @@ zero-range s at n h z =
     (replicate n 0)
     (l ∙ sym (length-replicate n 0))
     (λ i b. let k : i < n = omega arith in
-    range-byte s at n i k ∙ eqb-true (byte s (at + i)) 0 (each-gives (λ (j : ℕ). eqb (byte s (at + j)) 0) n z i k) ∙ sym (getD-replicate n i 0 0 k))
+    range-byte s at n i k ∙ eqb-true (byte s (at + i)) 0 (each-gives (λ (j : ℕ). eqb (byte s (at + j)) 0) n z i k)
+    ∙ sym (getD-replicate n i 0 0 k))
 
 module _ (s : List ℕ) (n : ℕ) (rest : List ℕ) where
   front-byte : (i : ℕ) → i < length s → byte (s ++ replicate n 0 ++ rest) i ≡ byte s i
@@ -147,7 +161,8 @@ module _ (s : List ℕ) (n : ℕ) (rest : List ℕ) where
   zeros-byte : (i : ℕ) → i < n → byte (s ++ replicate n 0 ++ rest) (length s + i) ≡ 0
   zeros-byte i h =
       rw append-assoc
-      (getD-append-add s (replicate n 0 ++ rest) i 0 ∙ List·getD-append (replicate n 0) rest 0 i (rw length-replicate h) ∙ getD-replicate n i 0 0 h)
+      (getD-append-add s (replicate n 0 ++ rest) i 0 ∙ List·getD-append (replicate n 0) rest 0 i (rw length-replicate h)
+      ∙ getD-replicate n i 0 0 h)
 
   -- zeros behind other bytes are all zero
   pub zeros-behind : allZero (s ++ replicate n 0 ++ rest) (length s) n ≡ true
@@ -161,8 +176,10 @@ module _ (s : List ℕ) (n : ℕ) (rest : List ℕ) where
   pub before-zeros : Nonzero s 0 (length s) → beforeZero (s ++ replicate n 0 ++ rest) 0 (length s + n) ≡ length s
   before-zeros h =
       ⊎-elim
-      (λ (l : 0 < n). before-is (s ++ replicate n 0 ++ rest) 0 (length s + n) (length s) (omega arith) others (rw zero-add (rw add-zero at (zeros-byte 0 l))))
-      (λ (l : n ≤ 0). let e : length s + n ≡ length s = omega arith in rw e (before-whole (s ++ replicate n 0 ++ rest) 0 (length s) others))
+      (λ (l : 0 < n). before-is (s ++ replicate n 0 ++ rest) 0 (length s + n) (length s) (omega arith) others
+      (rw zero-add (rw add-zero at (zeros-byte 0 l))))
+      (λ (l : n ≤ 0). let e : length s + n ≡ length s = omega arith in rw e
+      (before-whole (s ++ replicate n 0 ++ rest) 0 (length s) others))
       (lt-or-ge 0 n)
     where
       others : Nonzero (s ++ replicate n 0 ++ rest) 0 (length s)

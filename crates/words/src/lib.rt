@@ -113,8 +113,8 @@ pub fn put_number(buffer: &mut [u8], width: usize, n: u64)
     }
 }
 
-// How the `n` bytes of `a` from `p` compare with the `n` bytes of `b` from `q`: eight at a time, as numbers, and what is
-// left byte by byte.
+// How the `n` bytes of `a` from `p` compare with the `n` bytes of `b` from `q`: eight at a time, as numbers, and what
+// is left byte by byte.
 pub fn compare(a: &[u8], p: usize, b: &[u8], q: usize, n: usize) -> Order
     requires { ⌜ (p + n ≤ length (now a)) × (q + n ≤ length (now b)) ⌝ }
     ensures { λ r. ⌜ r ≡ order (range (now (a .entry)) p n) (range (now (b .entry)) q n) ⌝ }

@@ -16,10 +16,20 @@ cast-result-2 : tie.Need-cast-result-2
 cast-result-2 c = search needs
 
 mul-result : tie.Need-mul-result
-mul-result c = omega (arith, words-product (c .before .before .args .block - 1) (c .before .before .args .shape .«block_size») (search needs) (search needs))
+mul-result c =
+    omega (
+      arith,
+      words-product (c .before .before .args .block - 1) (c .before .before .args .shape .«block_size»)
+          (search needs) (search needs),
+    )
 
 add-result : tie.Need-add-result
-add-result c = omega (arith, words-product (c .before .before .args .block - 1) (c .before .before .args .shape .«block_size») (search needs) (search needs))
+add-result c =
+    omega (
+      arith,
+      words-product (c .before .before .args .block - 1) (c .before .before .args .shape .«block_size»)
+          (search needs) (search needs),
+    )
 
 returns : tie.Need-returns
 returns c = search needs

@@ -19,13 +19,16 @@ text-part-requires : tie.Need-text-part-requires
 text-part-requires c κs = search needs
 
 -- the part of the definition's cell
-is : (c : tie.After-struct-known) → let v = c .before .before .before .before .args in c .before .text-part .result ≡ partOf (cellOf (v .table .now) (v .block) (v .place) (v .field))
+is : (c : tie.After-struct-known) → let v = c .before .before .before .before .args in
+    c .before .text-part .result ≡ partOf (cellOf (v .table .now) (v .block) (v .place) (v .field))
 is c = c .before .text-part .ensures ∙ ap partOf (c .before .before .read .ensures .0)
 
-inside : (c : tie.After-struct-known) → let r = c .before .text-part .result in r .start + r .len ≤ length (c .before .before .before .before .args .table .now)
+inside : (c : tie.After-struct-known) → let r = c .before .text-part .result in
+    r .start + r .len ≤ length (c .before .before .before .before .args .table .now)
 inside c =
     let v = c .before .before .before .before .args in
-    subst (λ (q : Part). q .start + q .len ≤ length (v .table .now)) (sym (is c)) (part-inside (v .table .now) (v .block) (v .place) (v .field))
+    subst (λ (q : Part). q .start + q .len ≤ length (v .table .now)) (sym (is c))
+    (part-inside (v .table .now) (v .block) (v .place) (v .field))
 
 add-end : tie.Need-add-end
 add-end c = omega (arith, inside c)

@@ -8,6 +8,7 @@ use Rattle.header.specs.declared.kind.StoredKind.the-variants.{Kind}
 use Rattle.header.proofs.KindLaws.{kind-width}
 use Rattle.cell.specs.Writing.{ofKind}
 use Rattle.cell.specs.Values.{contentOf}
+use Rattle.cell.specs.Steps.{OfWidth}
 use Rattle.cell.proofs.ValueKinds.{of-kind-inside}
 use Rattle.cell.proofs.WritingLaws.{write-unknown, write-blob, write-other, write-short, write-form}
 use Rattle.cell.proofs.write.Statement.{statement}
@@ -25,10 +26,12 @@ enum-told c = search needs
 returns : tie.Need-returns
 returns c =
     let v = c .before .before .before .before .before .args in
-    write-unknown (v .code) (v .width) (contentOf (v .text .now) (v .value)) (v .buffer .now) (sym (c .before .before .of .ensures) ∙ c .enum-told .given .1)
+    write-unknown (v .code) (v .width) (contentOf (v .text .now) (v .value)) (v .buffer .now)
+    (sym (c .before .before .of .ensures) ∙ c .enum-told .given .1)
 
 -- the kind of the code and the width
-known : (c : tie.After-known-told) → let v = c .before .before .before .before .before .before .args in kindOf (v .code) (v .width) ≡ Kind (c .before .kind .given .0 .0)
+known : (c : tie.After-known-told) → let v = c .before .before .before .before .before .before .args in
+    kindOf (v .code) (v .width) ≡ Kind (c .before .kind .given .0 .0)
 known c = sym (c .before .before .before .of .ensures) ∙ c .before .kind .given .1
 
 is-blob-requires : tie.Need-is-blob-requires
@@ -37,7 +40,9 @@ is-blob-requires c κs = search needs
 returns-2 : tie.Need-returns-2
 returns-2 c =
     let v = c .before .before .before .before .before .before .before .before .args in
-    write-blob (v .code) (v .width) (contentOf (v .text .now) (v .value)) (v .buffer .now) (c .before .before .before .kind .given .0 .0) (known (c .before .before)) (sym (c .before .is-blob .ensures) ∙ c .if1 .taken)
+    write-blob (v .code) (v .width) (contentOf (v .text .now) (v .value)) (v .buffer .now)
+    (c .before .before .before .kind .given .0 .0) (known (c .before .before))
+    (sym (c .before .is-blob .ensures) ∙ c .if1 .taken)
 
 -- it is no blob's
 plain : (c : tie.Else1) → isBlob (c .before .before .before .kind .given .0 .0) ≡ false
@@ -49,35 +54,47 @@ is-of-kind-requires c κs = search needs
 returns-3 : tie.Need-returns-3
 returns-3 c =
     let v = c .before .before .before .before .before .before .before .before .before .before .args in
-    write-other (v .code) (v .width) (contentOf (v .text .now) (v .value)) (v .buffer .now) (c .before .before .before .before .before .kind .given .0 .0) (known (c .before .before .before .before)) (plain (c .before .before)) (sym (c .before .is-of-kind .ensures) ∙ not-true (c .before .is-of-kind .result) (c .if2 .taken))
+    write-other (v .code) (v .width) (contentOf (v .text .now) (v .value)) (v .buffer .now)
+    (c .before .before .before .before .before .kind .given .0 .0) (known (c .before .before .before .before))
+    (plain (c .before .before))
+    (sym (c .before .is-of-kind .ensures) ∙ not-true (c .before .is-of-kind .result) (c .if2 .taken))
 
 -- the value is of the kind
-kindred : (c : tie.Else2) → let v = c .before .before .before .before .before .before .before .before .before .before .args in ofKind (contentOf (v .text .now) (v .value)) (c .before .before .before .before .before .kind .given .0 .0) ≡ true
+kindred : (c : tie.Else2) → let d = c .before .before .before .before .before in
+    let v = d .before .before .before .before .before .args in
+    ofKind (contentOf (v .text .now) (v .value)) (d .kind .given .0 .0) ≡ true
 kindred c = sym (c .before .is-of-kind .ensures) ∙ not-false (c .before .is-of-kind .result) (c .if2 .left)
 
 returns-4 : tie.Need-returns-4
 returns-4 c =
     let v = c .before .before .before .before .before .before .before .before .before .before .before .args in
-    write-short (v .code) (v .width) (contentOf (v .text .now) (v .value)) (v .buffer .now) (c .before .before .before .before .before .before .kind .given .0 .0) (known (c .before .before .before .before .before)) (plain (c .before .before .before)) (kindred (c .before)) (c .if3 .taken)
+    write-short (v .code) (v .width) (contentOf (v .text .now) (v .value)) (v .buffer .now)
+    (c .before .before .before .before .before .before .kind .given .0 .0)
+    (known (c .before .before .before .before .before)) (plain (c .before .before .before)) (kindred (c .before))
+    (c .if3 .taken)
 
 put-value-requires : tie.Need-put-value-requires
 put-value-requires c κs =
     let v = c .before .before .before .before .before .before .before .before .before .before .before .before .args in
     let kind = c .before .before .before .before .before .before .before .kind .given .0 .0 in
-    let f = kindred (c .before .before) in (
-      c .before .if3 .left,
-      (kind, f, kind-width (v .code) (v .width) kind (known (c .before .before .before .before .before .before))),
-      of-kind-inside (v .text .now) (v .value) kind f,
-    )
+    let f = kindred (c .before .before) in
+    let k = known (c .before .before .before .before .before .before) in
+    let wide : OfWidth (contentOf (v .text .now) (v .value)) (v .width) =
+    (kind, f, kind-width (v .code) (v .width) kind k) in
+    (c .before .if3 .left, (wide, of-kind-inside (v .text .now) (v .value) kind f))
 
 same-length : tie.Need-same-length
 same-length c = search needs
 
 returns-5 : tie.Need-returns-5
 returns-5 c =
-    let v = c .before .before .before .before .before .before .before .before .before .before .before .before .before .before .before .args in
+    let d = c .before .before .before .before in
+    let v = d .before .before .before .before .before .before .before .before .before .before .before .args in
     c .before .before .put-value .ensures
-    ∙ write-form (v .code) (v .width) (contentOf (v .text .now) (v .value)) (v .buffer .now) (c .before .before .before .before .before .before .before .before .before .before .kind .given .0 .0) (known (c .before .before .before .before .before .before .before .before .before)) (plain (c .before .before .before .before .before .before .before)) (kindred (c .before .before .before .before .before)) (c .before .before .before .before .if3 .left)
+    ∙ write-form (v .code) (v .width) (contentOf (v .text .now) (v .value)) (v .buffer .now)
+    (d .before .before .before .before .before .before .kind .given .0 .0)
+    (known (d .before .before .before .before .before)) (plain (d .before .before .before)) (kindred (d .before))
+    (d .if3 .left)
 
 pub write-spec : {M : Type 1} → statement M
 write-spec =

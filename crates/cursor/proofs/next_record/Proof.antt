@@ -1,4 +1,5 @@
--- `next_record` meets its contract: 13, 9, 13 for the cursor itself, then the next place of its block or the next block. Assumes nothing.
+-- `next_record` meets its contract: 13, 9, 13 for the cursor itself, then the next place of its block or the next
+-- block. Assumes nothing.
 use mathlib.Core.Path.{_≡_, sym, ap, _∙_}
 use mathlib.Core.Bool.{true}
 use mathlib.Core.List.{List}
@@ -11,7 +12,8 @@ use Rattle.blocks.specs.declared.count.Count.the-variants.{Records}
 use Rattle.blocks.proofs.ShapeLaws.{head-inside}
 use Rattle.cursor.specs.Cursor.{inReach, firstFrom}
 use Rattle.cursor.specs.declared.Cursor.{Cursor}
-use Rattle.cursor.proofs.CursorLaws.{reach-block, reach-moves, step-outside, step-bad, step-past, step-stays, step-moves}
+use Rattle.cursor.proofs.CursorLaws.{reach-block, reach-moves, step-outside, step-bad, step-past, step-stays}
+use Rattle.cursor.proofs.CursorLaws.{step-moves}
 use Rattle.cursor.proofs.next_record.Statement.{statement}
 use Rattle.cursor.proofs.next_record.Tie as tie
 
@@ -24,7 +26,8 @@ in-reach-requires c κs = search needs
 returns : tie.Need-returns
 returns c =
     let v = c .before .before .before .before .args in
-    sym (step-outside (v .table .now) (v .shape) (v .cursor) (sym (c .before .in-reach .ensures) ∙ not-true _ (c .if1 .taken)))
+    sym (step-outside (v .table .now) (v .shape) (v .cursor)
+    (sym (c .before .in-reach .ensures) ∙ not-true _ (c .if1 .taken)))
 
 -- where the cursor's block is in the file
 module _ (c : tie.Else1) where
@@ -85,8 +88,11 @@ returns-4 c =
 
 next-of-requires : tie.Need-next-of-requires
 next-of-requires c κs =
-    let d = D (c .before .before .before .before) in
-    (here d .0, here d .1, head-inside (T d) (G d) (d .before .before .before .before .pre) (C d .block) (here d .0) (here d .1))
+    let d = D (c .before .before .before .before) in (
+      here d .0,
+      here d .1,
+      head-inside (T d) (G d) (d .before .before .before .before .pre) (C d .block) (here d .0) (here d .1),
+    )
 
 add-first-from : tie.Need-add-first-from
 add-first-from c =
@@ -103,7 +109,8 @@ returns-5 c =
     let d = D e in
     c .first-from .ensures
     ∙ ap (firstFrom (T d) (G d) (C d) (C d .moves + 1)) (c .before .before .next-of .ensures)
-    ∙ sym (step-moves (T d) (G d) (C d) (enters d) (N e) (counted e) (c .before .before .before .before .before .if2 .left) (c .before .before .before .if3 .left))
+    ∙ sym (step-moves (T d) (G d) (C d) (enters d) (N e) (counted e)
+    (c .before .before .before .before .before .if2 .left) (c .before .before .before .if3 .left))
 
 pub next-record-spec : {M : Type 1} → statement M
 next-record-spec =

@@ -2,10 +2,11 @@
 use mathlib.Core.Path.{refl}
 use mathlib.Core.List.{[], _∷_, _++_}
 use native.Mathlib.Omega.{arith}
-use Rattle.listing.specs.Text.{decimal}
+use Rattle.buffer.specs.Text.{decimal}
+use Rattle.buffer.proofs.PieceLaws.{wrote-then, wrote-length, at-front}
+use Rattle.buffer.proofs.TextLaws.{decimal-most}
 use Rattle.listing.specs.Listing.{newline, refusedWord, refusedText}
-use Rattle.listing.proofs.PutLaws.{wrote-then, wrote-length}
-use Rattle.listing.proofs.TextLaws.{decimal-most}
+use Rattle.listing.proofs.HeadLaws.{refused-most}
 use borrow.Author.Needs.{needs}
 use Rattle.listing.proofs.refused.Statement.{statement}
 use Rattle.listing.proofs.refused.Tie as tie
@@ -19,21 +20,26 @@ put-bytes-requires c κs = search needs
 put-decimal-requires : tie.Need-put-decimal-requires
 put-decimal-requires c κs =
     let a = c .before .put-bytes .ensures in
-    record { fits = omega (arith, a .ends, wrote-length a, decimal-most (c .before .before .before .before .args .number)) }
+    let m = decimal-most (c .before .before .before .before .args .number) in
+    record { fits = omega (arith, a .ends, wrote-length a, m) }
 
 put-byte-requires : tie.Need-put-byte-requires
 put-byte-requires c κs =
     let a = c .before .before .before .put-bytes .ensures in
     let b = c .before .put-decimal .ensures in
-    record { fits = omega (arith, a .ends, wrote-length a, b .ends, wrote-length b, decimal-most (c .before .before .before .before .before .before .args .number)) }
+    let m = decimal-most (c .before .before .before .before .before .before .args .number) in
+    record { fits = omega (arith, a .ends, wrote-length a, b .ends, wrote-length b, m) }
 
 returns : tie.Need-returns
 unfolding refusedText
 returns c =
+    let v = c .before .before .before .before .before .before .before .args in
+    let n = decimal (v .number) in
     let a = c .before .before .before .before .put-bytes .ensures in
     let b = c .before .before .put-decimal .ensures in
-    let n = decimal (c .before .before .before .before .before .before .before .args .number) in
-    (search needs, refl, wrote-then (refusedWord ++ n) (newline ∷ []) (wrote-then refusedWord n a b) (c .put-byte .ensures))
+    let w = wrote-then (refusedWord ++ n) (newline ∷ []) (wrote-then refusedWord n a b) (c .put-byte .ensures) in
+    let q = at-front (v .out .now) (refusedText (v .number)) _ _ (omega (arith, refused-most (v .number))) w in
+    (q .0, (q .1, refl))
 
 pub refused-spec : {M : Type 1} → statement M
 refused-spec =

@@ -1,4 +1,5 @@
--- `tree_fits` meets its contract: root 0 by the number of records, any other root by going down the tree to the end of the used chain. Assumes nothing.
+-- `tree_fits` meets its contract: root 0 by the number of records, any other root by going down the tree to the end
+-- of the used chain. Assumes nothing.
 use mathlib.Core.Path.{_≡_, sym, ap, _∙_}
 use mathlib.Core.List.{List}
 use Prim.Native.Nat.{ℕ}
@@ -16,7 +17,8 @@ use Rattle.pair.proofs.tree_fits.Tie as tie
 returns : tie.Need-returns
 returns c =
     let v = c .before .before .before .before .before .args in
-    sym (tree-empty (v .table .now) (v .h) (v .index .now) (v .i) (c .before .before .before .before .before .pre) (c .before .if1 .taken))
+    sym (tree-empty (v .table .now) (v .h) (v .index .now) (v .i) (c .before .before .before .before .before .pre)
+    (c .before .if1 .taken))
 
 shape-of-requires : tie.Need-shape-of-requires
 shape-of-requires c κs = search needs
@@ -64,18 +66,22 @@ enum-told c = search needs
 returns-2 : tie.Need-returns-2
 returns-2 c =
     let r = c .before .before .before .before .before .before in
-    sym (tree-unfit (T r) (H r) (X r) (I r) (asked r) (G r) (shape r) (r .before .if1 .left) (sym (c .before .before .block-fits .ensures) ∙ c .enum-told .given .1))
+    sym (tree-unfit (T r) (H r) (X r) (I r) (asked r) (G r) (shape r) (r .before .if1 .left)
+    (sym (c .before .before .block-fits .ensures) ∙ c .enum-told .given .1))
 
 first-holding-requires : tie.Need-first-holding-requires
 first-holding-requires c κs =
     let r = c .before .before .before .before .before .before .before in
-    next-followed (T r) (H r) (X r) (I r) (asked r) (G r) (shape r) (c .before .rest .given .0 .0) (sym (c .before .before .before .block-fits .ensures) ∙ c .before .rest .given .1)
+    next-followed (T r) (H r) (X r) (I r) (asked r) (G r) (shape r) (c .before .rest .given .0 .0)
+    (sym (c .before .before .before .block-fits .ensures) ∙ c .before .rest .given .1)
 
 returns-3 : tie.Need-returns-3
 returns-3 c =
     let r = c .before .before .before .before .before .before .before .before in
     ap (λ (b : ℕ). eqb b 0) (c .first-holding .ensures)
-    ∙ sym (tree-next (T r) (H r) (X r) (I r) (asked r) (G r) (shape r) (r .before .if1 .left) (c .before .before .rest .given .0 .0) (sym (c .before .before .before .before .block-fits .ensures) ∙ c .before .before .rest .given .1))
+    ∙ sym (tree-next (T r) (H r) (X r) (I r) (asked r) (G r) (shape r) (r .before .if1 .left)
+    (c .before .before .rest .given .0 .0) (sym (c .before .before .before .before .block-fits .ensures)
+    ∙ c .before .before .rest .given .1))
 
 pub tree-fits-spec : {M : Type 1} → statement M
 tree-fits-spec =

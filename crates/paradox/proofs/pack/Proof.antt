@@ -50,7 +50,9 @@ add-result-4 : tie.Need-add-result-4
 add-result-4 c = search needs
 
 returns : tie.Need-returns
-returns c = let g = c .before .found .given in at-packs _ _ (search needs) (g .0 .0) (g .0 .1 .0) (g .1) (search needs) (search needs)
+returns c =
+    let g = c .before .found .given in at-packs _ _ (search needs) (g .0 .0) (g .0 .1 .0) (g .1) (search needs)
+    (search needs)
 
 returns-2 : tie.Need-returns-2
 returns-2 c = absent-packs _ _ (search needs) (c .enum-told .given .1)

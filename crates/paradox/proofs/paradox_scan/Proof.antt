@@ -16,8 +16,8 @@ same-length c = search needs
 returns : tie.Need-returns
 returns c =
     let e = c .before .before .before .find .ensures in
-    let q = scan-packs _ _ _ (e .1) (c .pack .ensures) in
-    (q .0, q .1, e .2)
+    let q = scan-packs _ _ _ (e .1 .0) (c .pack .ensures) in
+    (q .0, (q .1, e .1 .1))
 
 pub paradox-scan-spec : {M : Type 1} → statement M
 paradox-scan-spec = tie.close (tie.spec find-requires pack-requires same-length returns)

@@ -1,5 +1,5 @@
--- `check_blocks` meets its contract: 14; 8 with the marks taken away; else what the tally answers. The part of the buffer that is lent
--- holds a mark for each block. Assumes nothing.
+-- `check_blocks` meets its contract: 14; 8 with the marks taken away; else what the tally answers. The part of the
+-- buffer that is lent holds a mark for each block. Assumes nothing.
 use mathlib.Core.Path.{_≡_, sym, ap, _∙_}
 use mathlib.Core.Bool.{true, false}
 use mathlib.Core.List.{List, _++_}
@@ -12,7 +12,8 @@ use Rattle.table.specs.Table.{tableChained}
 use Rattle.table.specs.Steps.{tallyAnswer, ChainsMarked}
 use Rattle.table.specs.declared.tally.Tally.{Tally}
 use Rattle.table.specs.declared.chains.Chains.{Chains}
-use Rattle.table.proofs.CheckLaws.{chains-refused, chains-kept, records-answered, buffer-short, buffer-long, cleared-part, cleared-rest, cleared-again}
+use Rattle.table.proofs.CheckLaws.{chains-refused, chains-kept, records-answered, buffer-short, buffer-long}
+use Rattle.table.proofs.CheckLaws.{cleared-part, cleared-rest, cleared-again}
 use Rattle.table.proofs.check_blocks.Statement.{statement}
 use Rattle.table.proofs.check_blocks.Tie as tie
 
@@ -20,7 +21,9 @@ cast-blocks : tie.Need-cast-blocks
 cast-blocks c = search needs
 
 returns : tie.Need-returns
-returns c = let v = c .before .before .before .before .args in buffer-short (v .table .now) (v .h) (v .marks .now) (c .if1 .taken)
+returns c =
+    let v = c .before .before .before .before .args in buffer-short (v .table .now) (v .h) (v .marks .now)
+    (c .if1 .taken)
 
 clear-requires : tie.Need-clear-requires
 clear-requires c κs = search needs
@@ -49,7 +52,8 @@ slice-relend-prefix-mark-chains : tie.Need-slice-relend-prefix-mark-chains
 slice-relend-prefix-mark-chains c = search needs
 
 slice-aggregate-mark-chains : tie.Need-slice-aggregate-mark-chains
-slice-aggregate-mark-chains c = let d = c .before .before .before in sym (ap length (part d) ∙ length-replicate (H d .blocks) 0)
+slice-aggregate-mark-chains c =
+    let d = c .before .before .before in sym (ap length (part d) ∙ length-replicate (H d .blocks) 0)
 
 mark-chains-requires : tie.Need-mark-chains-requires
 mark-chains-requires c κs =
@@ -83,11 +87,13 @@ returns-2 : tie.Need-returns-2
 returns-2 c =
     let e = c .before .before .before .before .before .before .before .before in
     let d = D e in
-    let wrong : tableChained (T d) (H d) ≡ false = sym (chained e .judged) ∙ not-true _ (c .before .before .before .before .if2 .taken) in
+    let wrong : tableChained (T d) (H d) ≡ false = sym (chained e .judged)
+    ∙ not-true _ (c .before .before .before .before .if2 .taken) in
     let r = chains-refused (T d) (H d) wrong in
     let b = buffer-long (T d) (H d) (M₀ d) (enough d) in (
       r .0 ∙ b .0,
-      cleared-again (H d .blocks) (M₀ d) (M₁ d) (d .clear .ensures) (M₂ e) _ (long e) (c .before .before .clear2 .ensures)
+      cleared-again (H d .blocks) (M₀ d) (M₁ d) (d .clear .ensures) (M₂ e) _ (long e)
+          (c .before .before .clear2 .ensures)
           ∙ ap (λ (s : List ℕ). s ++ drop (H d .blocks) (M₀ d)) (r .1)
           ∙ b .1,
     )

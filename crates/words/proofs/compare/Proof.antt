@@ -39,7 +39,9 @@ returns c =
     let v = l .before .before .before .args in
     let x = l .before .before .shared-slice-known in
     let y = l .before .shared-slice-known2 in
-    sym (l .loop .inv .1 ∙ eight-less (v .a .now) (v .b .now) (v .p) (v .q) (v .n) (l .loop .i) (search needs) (search needs) (search needs) (λ i. omega (arith, x .given i)) (λ i. omega (arith, y .given i)) (omega (arith, c .before .before .eight .ensures, c .before .eight2 .ensures, c .if1 .taken)))
+    sym (l .loop .inv .1 ∙ eight-less (v .a .now) (v .b .now) (v .p) (v .q) (v .n) (l .loop .i) (search needs)
+    (search needs) (search needs) (λ i. omega (arith, x .given i)) (λ i. omega (arith, y .given i))
+    (omega (arith, c .before .before .eight .ensures, c .before .eight2 .ensures, c .if1 .taken)))
 
 returns-2 : tie.Need-returns-2 Inv-loop μ-loop
 returns-2 c =
@@ -47,7 +49,9 @@ returns-2 c =
     let v = l .before .before .before .args in
     let x = l .before .before .shared-slice-known in
     let y = l .before .shared-slice-known2 in
-    sym (l .loop .inv .1 ∙ eight-more (v .a .now) (v .b .now) (v .p) (v .q) (v .n) (l .loop .i) (search needs) (search needs) (search needs) (λ i. omega (arith, x .given i)) (λ i. omega (arith, y .given i)) (omega (arith, c .before .before .before .eight .ensures, c .before .before .eight2 .ensures, c .if2 .taken)))
+    sym (l .loop .inv .1 ∙ eight-more (v .a .now) (v .b .now) (v .p) (v .q) (v .n) (l .loop .i) (search needs)
+    (search needs) (search needs) (λ i. omega (arith, x .given i)) (λ i. omega (arith, y .given i))
+    (omega (arith, c .before .before .before .eight .ensures, c .before .before .eight2 .ensures, c .if2 .taken)))
 
 add-i : tie.Need-add-i Inv-loop μ-loop
 add-i c = search needs
@@ -62,8 +66,12 @@ loop-again c =
     let x = l .before .before .shared-slice-known in
     let y = l .before .shared-slice-known2 in
     let f = c .before .before .before .eight .ensures in
-    let g = c .before .before .eight2 .ensures in
-    (search needs, l .loop .inv .1 ∙ eight-same (v .a .now) (v .b .now) (v .p) (v .q) (v .n) (l .loop .i) (search needs) (search needs) (search needs) (λ i. omega (arith, x .given i)) (λ i. omega (arith, y .given i)) (omega (arith, f, g, c .before .if1 .left)) (omega (arith, f, g, c .if2 .left)))
+    let g = c .before .before .eight2 .ensures in (
+      search needs,
+      l .loop .inv .1 ∙ eight-same (v .a .now) (v .b .now) (v .p) (v .q) (v .n) (l .loop .i) (search needs)
+          (search needs) (search needs) (λ i. omega (arith, x .given i)) (λ i. omega (arith, y .given i))
+          (omega (arith, f, g, c .before .if1 .left)) (omega (arith, f, g, c .if2 .left)),
+    )
 
 add-compare-bytes : tie.Need-add-compare-bytes Inv-loop μ-loop
 add-compare-bytes c = search needs

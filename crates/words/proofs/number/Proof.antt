@@ -21,7 +21,8 @@ unfolding big
 loop-holds c = (search needs, refl)
 
 -- the number with one byte more fits eight bytes
-next-fits : (s : List ℕ) (at w i n b : ℕ) → Bytes s → w ≤ 8 → i < w → n ≡ big s at i → b ≡ byte s (at + i) → n * 256 + b < 2 ^ 64
+next-fits : (s : List ℕ) (at w i n b : ℕ) → Bytes s → w ≤ 8 → i < w → n ≡ big s at i → b ≡ byte s (at + i) →
+    n * 256 + b < 2 ^ 64
 next-fits s at w i n b bytes small h e f =
     rw (e, f, ← big-step s at i) (below-wider (i + 1) 8 (big s at (i + 1)) (omega arith) (big-lt s at (i + 1) bytes))
 
@@ -30,7 +31,11 @@ mul-n c =
     let q = c .before .loop in
     let v = c .before .before .before .args in
     let k = c .before .before .shared-slice-known in
-    omega (arith, next-fits (v .s .now) (v .at) (v .width) (q .i) (q .n) (byte (v .s .now) (v .at + q .i)) (λ i. omega (arith, k .given i)) (search needs) (search needs) (q .inv .1) refl)
+    omega (
+      arith,
+      next-fits (v .s .now) (v .at) (v .width) (q .i) (q .n) (byte (v .s .now) (v .at + q .i))
+          (λ i. omega (arith, k .given i)) (search needs) (search needs) (q .inv .1) refl,
+    )
 
 add-wide : tie.Need-add-wide Inv-loop μ-loop
 add-wide c = search needs
@@ -46,7 +51,10 @@ add-n c =
     let q = c .before .before .before .loop in
     let v = c .before .before .before .before .before .args in
     let k = c .before .before .before .before .shared-slice-known in
-    record { fits = next-fits (v .s .now) (v .at) (v .width) (q .i) (q .n) (c .wide .result) (λ i. omega (arith, k .given i)) (search needs) (search needs) (q .inv .1) (c .wide .ensures) }
+    record {
+      fits = next-fits (v .s .now) (v .at) (v .width) (q .i) (q .n) (c .wide .result)
+          (λ i. omega (arith, k .given i)) (search needs) (search needs) (q .inv .1) (c .wide .ensures);
+    }
 
 add-i : tie.Need-add-i Inv-loop μ-loop
 add-i c = search needs

@@ -1,4 +1,5 @@
--- `put_number` meets its contract: what is still to be written, put before what stands from i on, is the result. Assumes nothing.
+-- `put_number` meets its contract: what is still to be written, put before what stands from i on, is the result.
+-- Assumes nothing.
 use mathlib.Core.Path.{_≡_, _∙_}
 use mathlib.Core.List.{List, _++_}
 use Prim.Native.Nat.{ℕ, _≤_}
@@ -11,7 +12,9 @@ use Rattle.words.proofs.put_number.Statement.{statement}
 use Rattle.words.proofs.put_number.Tie as tie
 
 abbrev Inv-loop : tie.InvT-loop
-Inv-loop buffer₀ width n m₀ i₀ buffer m i = (i ≤ length buffer) × (length buffer ≡ length buffer₀) × (digits i m ++ drop i buffer ≡ digits width n ++ drop width buffer₀)
+Inv-loop buffer₀ width n m₀ i₀ buffer m i =
+    (i ≤ length buffer) × (length buffer ≡ length buffer₀) × (digits i m ++ drop i buffer ≡ digits width n ++ drop width
+    buffer₀)
 
 abbrev μ-loop : tie.MeasureT-loop
 μ-loop buffer₀ width n m₀ i₀ buffer m i = i
@@ -33,8 +36,11 @@ loop-less c = search needs
 
 loop-again : tie.Need-loop-again Inv-loop μ-loop
 loop-again c =
-    let q = c .before .loop in
-    (simp length-set (omega arith), simp length-set (omega arith), write-step (q .buffer) (q .i) (q .m) (c .loop-test .taken) (q .inv .0) ∙ q .inv .2)
+    let q = c .before .loop in (
+      simp length-set (omega arith),
+      simp length-set (omega arith),
+      write-step (q .buffer) (q .i) (q .m) (c .loop-test .taken) (q .inv .0) ∙ q .inv .2,
+    )
 
 at-end : (i m : ℕ) (buffer : List ℕ) → i ≡ 0 → buffer ≡ digits i m ++ drop i buffer
 unfolding digits

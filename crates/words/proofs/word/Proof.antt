@@ -26,7 +26,12 @@ mul-result : tie.Need-mul-result
 mul-result c = omega (arith, c .shared-slice-known2 .given (c .before .before .args .at + 1))
 
 add-result : tie.Need-add-result
-add-result c = omega (arith, c .shared-slice-known2 .given (c .before .before .args .at + 1), c .before .shared-slice-known .given (c .before .before .args .at))
+add-result c =
+    omega (
+      arith,
+      c .shared-slice-known2 .given (c .before .before .args .at + 1),
+      c .before .shared-slice-known .given (c .before .before .args .at),
+    )
 
 returns : tie.Need-returns
 returns c = sym (word-bytes (c .before .before .args .s .now) (c .before .before .args .at))

@@ -16,7 +16,8 @@ block-at-requires : tie.Need-block-at-requires
 block-at-requires c κs = search needs
 
 -- the block's head is inside the file
-inside : (c : tie.After-block-at) → let v = c .before .before .args in blockAt (v .shape) (v .block) + 6 ≤ length (v .file .now)
+inside : (c : tie.After-block-at) → let v =
+    c .before .before .args in blockAt (v .shape) (v .block) + 6 ≤ length (v .file .now)
 inside c =
     let v = c .before .before .args in
     let p = c .before .before .pre in
@@ -36,7 +37,8 @@ unfolding countIn
 returns c =
     let v = c .before .before .before .before .args in
     c .count-of .ensures
-    ∙ ap (λ (n : ℕ). countOf (v .shape .«block_size») (v .shape .«record_size») (signed 32768 n)) (c .before .word .ensures ∙ ap (λ (a : ℕ). word (v .file .now) (a + 4)) (c .before .before .block-at .ensures))
+    ∙ ap (λ (n : ℕ). countOf (v .shape .«block_size») (v .shape .«record_size») (signed 32768 n))
+    (c .before .word .ensures ∙ ap (λ (a : ℕ). word (v .file .now) (a + 4)) (c .before .before .block-at .ensures))
 
 pub count-in-spec : {M : Type 1} → statement M
 count-in-spec =

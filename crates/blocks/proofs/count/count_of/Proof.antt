@@ -10,16 +10,23 @@ sub-if2 : tie.Need-sub-if2
 sub-if2 c = search needs
 
 returns : tie.Need-returns
-returns c = let v = c .before .before .args in count-none (v .block) (v .size) (v .last) (c .before .if1 .taken) (search needs) (c .if2 .taken)
+returns c =
+    let v = c .before .before .args in count-none (v .block-size) (v .record-size) (v .last) (c .before .if1 .taken)
+    (search needs)
+    (c .if2 .taken)
 
 returns-2 : tie.Need-returns-2
-returns-2 c = let v = c .before .before .args in count-negative (v .block) (v .size) (v .last) (c .before .if1 .taken) (search needs) (c .if2 .left)
+returns-2 c =
+    let v = c .before .before .args in count-negative (v .block-size) (v .record-size) (v .last) (c .before .if1 .taken)
+    (search needs) (c .if2 .left)
 
 rem-if3 : tie.Need-rem-if3
 rem-if3 c = search needs
 
 returns-3 : tie.Need-returns-3
-returns-3 c = let v = c .before .before .args in count-between (v .block) (v .size) (v .last) (c .before .if1 .left) (c .if3 .taken)
+returns-3 c =
+    let v = c .before .before .args in count-between (v .block-size) (v .record-size) (v .last) (c .before .if1 .left)
+    (c .if3 .taken)
 
 sub-room : tie.Need-sub-room
 sub-room c = search needs
@@ -28,16 +35,21 @@ add-if4 : tie.Need-add-if4
 add-if4 c = search needs
 
 returns-4 : tie.Need-returns-4
-returns-4 c = let v = c .before .before .before .args in count-beyond (v .block) (v .size) (v .last) (c .before .before .if1 .left) (c .before .if3 .left) (c .if4 .taken)
+returns-4 c =
+    let v = c .before .before .before .args in count-beyond (v .block-size) (v .record-size) (v .last)
+    (c .before .before .if1 .left) (c .before .if3 .left) (c .if4 .taken)
 
 div-t10 : tie.Need-div-t10
 div-t10 c = search needs
 
 add-t14 : tie.Need-add-t14
-add-t14 c = let v = c .before .before .before .args in omega (arith, div-le-self (v .last) (v .size))
+add-t14 c = let v = c .before .before .before .args in omega (arith, div-le-self (v .last) (v .record-size))
 
 returns-5 : tie.Need-returns-5
-returns-5 c = let v = c .before .before .before .args in count-some (v .block) (v .size) (v .last) (c .before .before .if1 .left) (c .before .if3 .left) (c .if4 .left)
+returns-5 c =
+    let v = c .before .before .before .args in count-some (v .block-size) (v .record-size) (v .last)
+    (c .before .before .if1 .left)
+    (c .before .if3 .left) (c .if4 .left)
 
 pub count-of-spec : {M : Type 1} → statement M
 count-of-spec =

@@ -15,7 +15,8 @@ use Rattle.cell.specs.Reading.{cellAt}
 use Rattle.cell.specs.declared.value.Value.the-variants as Val
 use Rattle.cell.specs.declared.value.Cell.{Cell}
 use Rattle.cell.specs.declared.value.Cell.the-variants.{Is}
-use Rattle.cell.proofs.ReadingLaws.{number-below, cell-blob, cell-blank, cell-text, cell-date, cell-short, cell-long, cell-number, cell-logical}
+use Rattle.cell.proofs.ReadingLaws.{number-below, cell-blob, cell-blank, cell-text, cell-date, cell-short}
+use Rattle.cell.proofs.ReadingLaws.{cell-long, cell-number, cell-logical}
 use Rattle.cell.proofs.decode.cell_at.Statement.{statement}
 use Rattle.cell.proofs.decode.cell_at.Tie as tie
 
@@ -27,7 +28,9 @@ is-blob-requires : tie.Need-is-blob-requires
 is-blob-requires c κs = search needs
 
 returns : tie.Need-returns
-returns c = let v = c .before .before .before .args in cell-blob (v .kind) (v .t .now) (v .at) (v .width) (sym (c .before .is-blob .ensures) ∙ c .if1 .taken)
+returns c =
+    let v = c .before .before .before .args in
+    cell-blob (v .kind) (v .t .now) (v .at) (v .width) (sym (c .before .is-blob .ensures) ∙ c .if1 .taken)
 
 all-zero-requires : tie.Need-all-zero-requires
 all-zero-requires c κs = search needs
@@ -35,10 +38,13 @@ all-zero-requires c κs = search needs
 returns-2 : tie.Need-returns-2
 returns-2 c =
     let v = c .before .before .before .before .before .args in
-    cell-blank (v .kind) (v .t .now) (v .at) (v .width) (sym (c .before .before .before .is-blob .ensures) ∙ c .before .before .if1 .left) (sym (c .before .all-zero .ensures) ∙ c .if2 .taken)
+    cell-blank (v .kind) (v .t .now) (v .at) (v .width)
+    (sym (c .before .before .before .is-blob .ensures) ∙ c .before .before .if1 .left)
+    (sym (c .before .all-zero .ensures) ∙ c .if2 .taken)
 
 -- past the test of zeros the bytes are not all zero, and each of them is a byte
-zero : (c : tie.Else2) → let v = c .before .before .before .before .before .args in allZero (v .t .now) (v .at) (v .width) ≡ false
+zero : (c : tie.Else2) → let v = c .before .before .before .before .before .args in
+    allZero (v .t .now) (v .at) (v .width) ≡ false
 zero c = sym (c .before .all-zero .ensures) ∙ c .if2 .left
 
 bytes : (c : tie.Else1) → Bytes (c .before .before .before .args .t .now)
@@ -55,46 +61,67 @@ enum-told-2 c = search needs
 
 number-requires : tie.Need-number-requires
 unfolding Permitted
-number-requires c κs = let w : c .before .before .before .before .before .before .before .args .width ≡ 4 = permitted (c .before .before .before .before .before .before .before) Kin.Date (c .enum-told2 .given .1) in (omega arith, c .before .before .before .before .before .before .before .pre .1)
+number-requires c κs =
+    let s = c .before .before .before .before .before .before .before in
+    let w : s .args .width ≡ 4 = permitted s Kin.Date (c .enum-told2 .given .1) in
+    (omega arith, s .pre .1)
 
 date-of-requires : tie.Need-date-of-requires
 unfolding Permitted
 date-of-requires c κs =
     let v = c .before .before .before .before .before .before .before .before .args in
-    number-below (v .t .now) (v .at) (v .width) 4 (bytes (c .before .before .before .before .before)) (c .number .result) (permitted (c .before .before .before .before .before .before .before .before) Kin.Date (c .before .enum-told2 .given .1)) (c .number .ensures)
+    number-below (v .t .now) (v .at) (v .width) 4 (bytes (c .before .before .before .before .before))
+    (c .number .result)
+    (permitted (c .before .before .before .before .before .before .before .before) Kin.Date
+    (c .before .enum-told2 .given .1)) (c .number .ensures)
 
 enum-told-3 : tie.Need-enum-told-3
 enum-told-3 c = search needs
 
 number-requires-2 : tie.Need-number-requires-2
 unfolding Permitted
-number-requires-2 c κs = let w : c .before .before .before .before .before .before .before .args .width ≡ 2 = permitted (c .before .before .before .before .before .before .before) Kin.Short (c .enum-told3 .given .1) in (omega arith, c .before .before .before .before .before .before .before .pre .1)
+number-requires-2 c κs =
+    let s = c .before .before .before .before .before .before .before in
+    let w : s .args .width ≡ 2 = permitted s Kin.Short (c .enum-told3 .given .1) in
+    (omega arith, s .pre .1)
 
 short-of-requires : tie.Need-short-of-requires
 unfolding Permitted
 short-of-requires c κs =
     let v = c .before .before .before .before .before .before .before .before .args in
-    number-below (v .t .now) (v .at) (v .width) 2 (bytes (c .before .before .before .before .before)) (c .number2 .result) (permitted (c .before .before .before .before .before .before .before .before) Kin.Short (c .before .enum-told3 .given .1)) (c .number2 .ensures)
+    number-below (v .t .now) (v .at) (v .width) 2 (bytes (c .before .before .before .before .before))
+    (c .number2 .result)
+    (permitted (c .before .before .before .before .before .before .before .before) Kin.Short
+    (c .before .enum-told3 .given .1)) (c .number2 .ensures)
 
 enum-told-4 : tie.Need-enum-told-4
 enum-told-4 c = search needs
 
 number-requires-3 : tie.Need-number-requires-3
 unfolding Permitted
-number-requires-3 c κs = let w : c .before .before .before .before .before .before .before .args .width ≡ 4 = permitted (c .before .before .before .before .before .before .before) Kin.Long (c .enum-told4 .given .1) in (omega arith, c .before .before .before .before .before .before .before .pre .1)
+number-requires-3 c κs =
+    let s = c .before .before .before .before .before .before .before in
+    let w : s .args .width ≡ 4 = permitted s Kin.Long (c .enum-told4 .given .1) in
+    (omega arith, s .pre .1)
 
 long-of-requires : tie.Need-long-of-requires
 unfolding Permitted
 long-of-requires c κs =
     let v = c .before .before .before .before .before .before .before .before .args in
-    number-below (v .t .now) (v .at) (v .width) 4 (bytes (c .before .before .before .before .before)) (c .number3 .result) (permitted (c .before .before .before .before .before .before .before .before) Kin.Long (c .before .enum-told4 .given .1)) (c .number3 .ensures)
+    number-below (v .t .now) (v .at) (v .width) 4 (bytes (c .before .before .before .before .before))
+    (c .number3 .result)
+    (permitted (c .before .before .before .before .before .before .before .before) Kin.Long
+    (c .before .enum-told4 .given .1)) (c .number3 .ensures)
 
 enum-told-5 : tie.Need-enum-told-5
 enum-told-5 c = search needs
 
 number-requires-4 : tie.Need-number-requires-4
 unfolding Permitted
-number-requires-4 c κs = let w : c .before .before .before .before .before .before .before .args .width ≡ 8 = permitted (c .before .before .before .before .before .before .before) Kin.Number (c .enum-told5 .given .1) in (omega arith, c .before .before .before .before .before .before .before .pre .1)
+number-requires-4 c κs =
+    let s = c .before .before .before .before .before .before .before in
+    let w : s .args .width ≡ 8 = permitted s Kin.Number (c .enum-told5 .given .1) in
+    (omega arith, s .pre .1)
 
 number-of-requires : tie.Need-number-of-requires
 number-of-requires c κs = search needs
@@ -104,7 +131,10 @@ enum-told-6 c = search needs
 
 number-requires-5 : tie.Need-number-requires-5
 unfolding Permitted
-number-requires-5 c κs = let w : c .before .before .before .before .before .before .before .args .width ≡ 1 = permitted (c .before .before .before .before .before .before .before) Kin.Logical (c .enum-told6 .given .1) in (omega arith, c .before .before .before .before .before .before .before .pre .1)
+number-requires-5 c κs =
+    let s = c .before .before .before .before .before .before .before in
+    let w : s .args .width ≡ 1 = permitted s Kin.Logical (c .enum-told6 .given .1) in
+    (omega arith, s .pre .1)
 
 logical-of-requires : tie.Need-logical-of-requires
 logical-of-requires c κs = search needs
@@ -123,23 +153,31 @@ returns-4 c =
     let v = c .before .before .before .before .before .before .before .before .before .args in
     let n = c .before .number in
     c .date-of .ensures
-    ∙ cell-date (v .t .now) (v .at) (v .width) (zero (c .before .before .before .before)) (permitted (c .before .before .before .before .before .before .before .before .before) Kin.Date (c .before .before .enum-told2 .given .1)) (n .result) (n .ensures)
+    ∙ cell-date (v .t .now) (v .at) (v .width) (zero (c .before .before .before .before))
+    (permitted (c .before .before .before .before .before .before .before .before .before) Kin.Date
+    (c .before .before .enum-told2 .given .1)) (n .result) (n .ensures)
     ∙ ap (λ (k : FieldKind). cellAt k (v .t .now) (v .at) (v .width)) (sym (c .before .before .enum-told2 .given .1))
 
 returns-5 : tie.Need-returns-5
 returns-5 c =
     let v = c .before .before .before .before .before .before .before .before .before .args in
     let n = c .before .number2 in
-    ap {B = Cell} (λ (z : ℤ). Is (Val.Short z)) (toZ-ofZ w16 (c .short-of .result) (record { sfits = c .short-of .ok }) ∙ c .short-of .ensures)
-    ∙ cell-short (v .t .now) (v .at) (v .width) (zero (c .before .before .before .before)) (permitted (c .before .before .before .before .before .before .before .before .before) Kin.Short (c .before .before .enum-told3 .given .1)) (n .result) (n .ensures)
+    ap {B = Cell} (λ (z : ℤ). Is (Val.Short z))
+    (toZ-ofZ w16 (c .short-of .result) (record { sfits = c .short-of .ok }) ∙ c .short-of .ensures)
+    ∙ cell-short (v .t .now) (v .at) (v .width) (zero (c .before .before .before .before))
+    (permitted (c .before .before .before .before .before .before .before .before .before) Kin.Short
+    (c .before .before .enum-told3 .given .1)) (n .result) (n .ensures)
     ∙ ap (λ (k : FieldKind). cellAt k (v .t .now) (v .at) (v .width)) (sym (c .before .before .enum-told3 .given .1))
 
 returns-6 : tie.Need-returns-6
 returns-6 c =
     let v = c .before .before .before .before .before .before .before .before .before .args in
     let n = c .before .number3 in
-    ap {B = Cell} (λ (z : ℤ). Is (Val.Long z)) (toZ-ofZ w32 (c .long-of .result) (record { sfits = c .long-of .ok }) ∙ c .long-of .ensures)
-    ∙ cell-long (v .t .now) (v .at) (v .width) (zero (c .before .before .before .before)) (permitted (c .before .before .before .before .before .before .before .before .before) Kin.Long (c .before .before .enum-told4 .given .1)) (n .result) (n .ensures)
+    ap {B = Cell} (λ (z : ℤ). Is (Val.Long z))
+    (toZ-ofZ w32 (c .long-of .result) (record { sfits = c .long-of .ok }) ∙ c .long-of .ensures)
+    ∙ cell-long (v .t .now) (v .at) (v .width) (zero (c .before .before .before .before))
+    (permitted (c .before .before .before .before .before .before .before .before .before) Kin.Long
+    (c .before .before .enum-told4 .given .1)) (n .result) (n .ensures)
     ∙ ap (λ (k : FieldKind). cellAt k (v .t .now) (v .at) (v .width)) (sym (c .before .before .enum-told4 .given .1))
 
 returns-7 : tie.Need-returns-7
@@ -147,7 +185,9 @@ returns-7 c =
     let v = c .before .before .before .before .before .before .before .before .before .args in
     let n = c .before .number4 in
     c .number-of .ensures
-    ∙ cell-number (v .t .now) (v .at) (v .width) (zero (c .before .before .before .before)) (permitted (c .before .before .before .before .before .before .before .before .before) Kin.Number (c .before .before .enum-told5 .given .1)) (n .result) (n .ensures)
+    ∙ cell-number (v .t .now) (v .at) (v .width) (zero (c .before .before .before .before))
+    (permitted (c .before .before .before .before .before .before .before .before .before) Kin.Number
+    (c .before .before .enum-told5 .given .1)) (n .result) (n .ensures)
     ∙ ap (λ (k : FieldKind). cellAt k (v .t .now) (v .at) (v .width)) (sym (c .before .before .enum-told5 .given .1))
 
 returns-8 : tie.Need-returns-8
@@ -160,7 +200,9 @@ returns-8 c =
 
 returns-9 : tie.Need-returns-9
 unfolding isBlob
-returns-9 c = let v = c .before .before .before .before .before .before .before .args in cell-blob (v .kind) (v .t .now) (v .at) (v .width) (ap isBlob (c .enum-told7 .given .1))
+returns-9 c =
+    let v = c .before .before .before .before .before .before .before .args in
+    cell-blob (v .kind) (v .t .now) (v .at) (v .width) (ap isBlob (c .enum-told7 .given .1))
 
 pub cell-at-spec : {M : Type 1} → statement M
 cell-at-spec =

@@ -11,13 +11,16 @@ returns-2 : tie.Need-returns-2
 returns-2 c = date-early (c .before .before .args .n) (search needs) (c .before .if1 .left) (c .if2 .taken)
 
 returns-3 : tie.Need-returns-3
-returns-3 c = date-late (c .before .before .before .args .n) (search needs) (c .before .before .if1 .left) (c .if3 .taken)
+returns-3 c =
+    date-late (c .before .before .before .args .n) (search needs) (c .before .before .if1 .left) (c .if3 .taken)
 
 cast-t4 : tie.Need-cast-t4
 cast-t4 c = search needs
 
 returns-4 : tie.Need-returns-4
-returns-4 c = date-is (c .before .before .before .args .n) (search needs) (c .before .before .if1 .left) (c .before .if2 .left) (c .if3 .left)
+returns-4 c =
+    date-is (c .before .before .before .args .n) (search needs) (c .before .before .if1 .left) (c .before .if2 .left)
+    (c .if3 .left)
 
 pub date-of-spec : {M : Type 1} → statement M
 date-of-spec = tie.close (tie.spec returns returns-2 returns-3 cast-t4 returns-4)

@@ -15,14 +15,24 @@ is-finite-requires c κs = search needs
 
 returns : tie.Need-returns
 unfolding numberCell
-returns c = rw (← c .before .before .top-complemented .ensures, ← c .before .is-finite .ensures, not-true (c .before .is-finite .result) (c .if1 .taken))
+returns c =
+    rw (
+      ← c .before .before .top-complemented .ensures,
+      ← c .before .is-finite .ensures,
+      not-true (c .before .is-finite .result) (c .if1 .taken),
+    )
 
 float-from-bits-t5 : tie.Need-float-from-bits-t5
 float-from-bits-t5 c = finite-bits _ (sym (c .before .is-finite .ensures) ∙ not-false _ (c .if1 .left))
 
 returns-2 : tie.Need-returns-2
 unfolding numberCell
-returns-2 c = rw (← c .before .before .top-complemented .ensures, ← c .before .is-finite .ensures, not-false (c .before .is-finite .result) (c .if1 .left))
+returns-2 c =
+    rw (
+      ← c .before .before .top-complemented .ensures,
+      ← c .before .is-finite .ensures,
+      not-false (c .before .is-finite .result) (c .if1 .left),
+    )
 
 pub number-of-spec : {M : Type 1} → statement M
 number-of-spec =

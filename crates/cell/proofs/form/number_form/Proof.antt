@@ -22,7 +22,9 @@ is-finite-requires c κs = search needs
 
 returns-2 : tie.Need-returns-2
 unfolding codedForm
-returns-2 c = infinite-form _ (c .before .before .before .good .0 .1) (sym (c .before .is-finite .ensures) ∙ not-true _ (c .if2 .taken))
+returns-2 c =
+    infinite-form _ (c .before .before .before .good .0 .1)
+    (sym (c .before .is-finite .ensures) ∙ not-true _ (c .if2 .taken))
 
 returns-3 : tie.Need-returns-3
 unfolding codedForm
@@ -35,7 +37,9 @@ returns-4 : tie.Need-returns-4
 unfolding codedForm
 returns-4 c =
     ap {B = Form} (λ (n : ℕ). bytes (digits 8 n)) (c .top-complemented .ensures)
-    ∙ number-is _ (c .before .before .before .before .before .good .0 .1) (sym (c .before .before .before .is-finite .ensures) ∙ not-false _ (c .before .before .if2 .left)) (c .before .if3 .left)
+    ∙ number-is _ (c .before .before .before .before .before .good .0 .1)
+    (sym (c .before .before .before .is-finite .ensures) ∙ not-false _ (c .before .before .if2 .left))
+    (c .before .if3 .left)
 
 pub number-form-spec : {M : Type 1} → statement M
 number-form-spec =

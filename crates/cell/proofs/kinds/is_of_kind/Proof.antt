@@ -61,7 +61,8 @@ returns-7 : tie.Need-returns-7
 returns-7 c =
     let v = c .before .before .before .before .before .before .args in
     let q = c .before .before .value .given in
-    rw (q .1, c .is-part .ensures, c .before .before .before .before .code-of .ensures) (of-kind-text (v .text .now) (q .0 .0) (q .0 .1 .0) (v .kind))
+    rw (q .1, c .is-part .ensures, c .before .before .before .before .code-of .ensures)
+    (of-kind-text (v .text .now) (q .0 .0) (q .0 .1 .0) (v .kind))
 
 pub is-of-kind-spec : {M : Type 1} → statement M
 is-of-kind-spec =

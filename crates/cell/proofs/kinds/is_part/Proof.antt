@@ -10,7 +10,8 @@ use Rattle.cell.proofs.kinds.is_part.Statement.{statement}
 use Rattle.cell.proofs.kinds.is_part.Tie as tie
 
 returns : tie.Need-returns
-returns c = let v = c .before .args in sym (lt-leb (v .start + v .len) (length (v .s .now)) (omega (arith, c .if1 .taken)))
+returns c =
+    let v = c .before .args in sym (lt-leb (v .start + v .len) (length (v .s .now)) (omega (arith, c .if1 .taken)))
 
 sub-result : tie.Need-sub-result
 sub-result c = search needs

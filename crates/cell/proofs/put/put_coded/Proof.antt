@@ -26,7 +26,9 @@ same-length c = search needs
 
 returns-2 : tie.Need-returns-2
 unfolding putForm codedForm
-returns-2 c = rw (c .before .before .before .before .before .coded .given .1) (ap {B = ℕ × List ℕ} (λ (l : List ℕ). (0, l)) (c .before .before .put-number .ensures))
+returns-2 c =
+    rw (c .before .before .before .before .before .coded .given .1)
+    (ap {B = ℕ × List ℕ} (λ (l : List ℕ). (0, l)) (c .before .before .put-number .ensures))
 
 pub put-coded-spec : {M : Type 1} → statement M
 put-coded-spec =

@@ -14,13 +14,16 @@ returns : tie.Need-returns
 unfolding putForm
 returns c =
     let v = c .before .before .before .args in
-    ap (λ (f : Form). putForm (v .width) f (v .buffer .now)) (text-empty (v .text .now) (v .start) (v .len) (v .width) (c .before .before .before .pre .1) (c .if1 .taken))
+    ap (λ (f : Form). putForm (v .width) f (v .buffer .now))
+    (text-empty (v .text .now) (v .start) (v .len) (v .width) (c .before .before .before .pre .1) (c .if1 .taken))
 
 returns-2 : tie.Need-returns-2
 unfolding putForm
 returns-2 c =
     let v = c .before .before .before .before .args in
-    ap (λ (f : Form). putForm (v .width) f (v .buffer .now)) (text-long (v .text .now) (v .start) (v .len) (v .width) (c .before .before .before .before .pre .1) (c .before .if1 .left) (c .if2 .taken))
+    ap (λ (f : Form). putForm (v .width) f (v .buffer .now))
+    (text-long (v .text .now) (v .start) (v .len) (v .width) (c .before .before .before .before .pre .1)
+    (c .before .if1 .left) (c .if2 .taken))
 
 before-zero-requires : tie.Need-before-zero-requires
 before-zero-requires c κs = search needs
@@ -29,8 +32,11 @@ returns-3 : tie.Need-returns-3
 unfolding putForm
 returns-3 c =
     let v = c .before .before .before .before .before .before .args in
-    let z : beforeZero (v .text .now) (v .start) (v .len) < v .len = omega (arith, c .if3 .taken, c .before .before-zero .ensures) in
-    ap (λ (f : Form). putForm (v .width) f (v .buffer .now)) (text-zero (v .text .now) (v .start) (v .len) (v .width) (c .before .before .before .before .before .before .pre .1) (c .before .before .before .if1 .left) (c .before .before .if2 .left) z)
+    let z : beforeZero (v .text .now) (v .start) (v .len) < v .len =
+    omega (arith, c .if3 .taken, c .before .before-zero .ensures) in
+    ap (λ (f : Form). putForm (v .width) f (v .buffer .now))
+    (text-zero (v .text .now) (v .start) (v .len) (v .width) (c .before .before .before .before .before .before .pre .1)
+    (c .before .before .before .if1 .left) (c .before .before .if2 .left) z)
 
 copy-text-requires : tie.Need-copy-text-requires
 copy-text-requires c κs = search needs
@@ -42,9 +48,15 @@ returns-4 : tie.Need-returns-4
 unfolding putForm
 returns-4 c =
     let v = c .before .before .before .before .before .before .before .before .before .before .args in
-    let z : v .len ≤ beforeZero (v .text .now) (v .start) (v .len) = omega (arith, c .before .before .before .before .if3 .left, c .before .before .before .before .before .before-zero .ensures) in
+    let d = c .before .before .before .before in
+    let z : v .len ≤ beforeZero (v .text .now) (v .start) (v .len) =
+    omega (arith, d .if3 .left, d .before .before-zero .ensures) in
     ap {B = ℕ × List ℕ} (λ (l : List ℕ). (0, l)) (c .before .before .copy-text .ensures)
-    ∙ ap (λ (f : Form). putForm (v .width) f (v .buffer .now)) (text-fits (v .text .now) (v .start) (v .len) (v .width) (c .before .before .before .before .before .before .before .before .before .before .pre .1) (c .before .before .before .before .before .before .before .if1 .left) (c .before .before .before .before .before .before .if2 .left) z)
+    ∙ ap (λ (f : Form). putForm (v .width) f (v .buffer .now))
+    (text-fits (v .text .now) (v .start) (v .len) (v .width)
+    (c .before .before .before .before .before .before .before .before .before .before .pre .1)
+    (c .before .before .before .before .before .before .before .if1 .left)
+    (c .before .before .before .before .before .before .if2 .left) z)
 
 pub put-text-spec : {M : Type 1} → statement M
 put-text-spec =

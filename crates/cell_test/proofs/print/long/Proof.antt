@@ -14,7 +14,9 @@ add-less : tie.Need-add-less
 add-less c = sum-fits w32 (c .args .z) 2147483648 (c .fits .z) refl (lit≤ tt)
 
 cast-less-2 : tie.Need-cast-less-2
-cast-less-2 c = rw (total w32 (c .args .z) 2147483648 (c .fits .z) refl (lit≤ tt)) (tt, total-fits w32 (c .args .z) 2147483648 (c .fits .z) refl (lit≤ tt))
+cast-less-2 c =
+    rw (total w32 (c .args .z) 2147483648 (c .fits .z) refl (lit≤ tt))
+    (tt, total-fits w32 (c .args .z) 2147483648 (c .fits .z) refl (lit≤ tt))
 
 less-requires : tie.Need-less-requires
 less-requires c κs = search needs

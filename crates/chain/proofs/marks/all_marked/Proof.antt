@@ -8,7 +8,7 @@ use borrow.Author.Tests.{eq-eqb, ne-eqb}
 use borrow.Author.Needs.{needs}
 use Rattle.words.specs.Each.{each}
 use Rattle.words.proofs.EachLaws.{each-more, each-fails}
-use Rattle.chain.specs.Steps.{hasMark, allMarked}
+use Rattle.chain.specs.Marks.{hasMark, allMarked}
 use Rattle.chain.proofs.marks.all_marked.Statement.{statement}
 use Rattle.chain.proofs.marks.all_marked.Tie as tie
 

@@ -2,7 +2,7 @@
 use borrow.Author.Needs.{needs}
 use borrow.Author.Tests.{le-leb, lt-leb}
 use Rattle.blocks.specs.Shape.{inFile}
-use Rattle.chain.specs.Steps.{isUnmarked}
+use Rattle.chain.specs.Marks.{isUnmarked}
 use Rattle.chain.proofs.marks.is_unmarked.Statement.{statement}
 use Rattle.chain.proofs.marks.is_unmarked.Tie as tie
 

@@ -1,14 +1,10 @@
 -- `Cursor::start` meets its contract: 1 to 7, then the first record from the first block on. Assumes nothing.
-use mathlib.Core.Path.{_≡_, sym, ap, _∙_}
+use mathlib.Core.Path.{sym, _∙_}
 use borrow.Author.Needs.{needs}
-use Rattle.header.specs.Header.{headerOf}
-use Rattle.header.specs.declared.Header.{Header}
-use Rattle.header.proofs.AcceptedLaws.{accepted}
-use Rattle.blocks.specs.Shape.{shapeOf}
+use Rattle.header.proofs.AcceptedLaws.{read-accepted}
 use Rattle.blocks.proofs.ShapeLaws.{sound}
-use Rattle.cursor.specs.declared.Cursor.{Cursor}
 use Rattle.cursor.specs.declared.Step.the-variants.{Refused}
-use Rattle.cursor.proofs.CursorLaws.{start-refused, start-accepted, starts}
+use Rattle.cursor.proofs.CursorLaws.{start-refused, start-read, starts}
 use Rattle.cursor.proofs.Cursor.start.Statement.{statement}
 use Rattle.cursor.proofs.Cursor.start.Tie as tie
 
@@ -20,11 +16,10 @@ at-end-requires c κs = search needs
 
 returns : tie.Need-returns
 returns c =
-    let v = c .before .before .before .before .before .args in
-    let h = c .before .before .before .read .ensures in
-    let e = ap (λ (k : Header). k .refusal) h in
-    starts (v .table .now) (Refused (c .before .before .before .read .result .refusal) (c .at-end .result))
-    (rw (c .at-end .ensures, h) (sym (start-refused (v .table .now) (λ z. c .before .if1 .taken (e ∙ z)))))
+    let t = c .before .before .before .before .before .args .table .now in
+    let r = c .before .before .before .read in
+    starts t (Refused (r .result .refusal) (c .at-end .result))
+    (rw (c .at-end .ensures) (sym (start-refused t (r .result) (r .ensures) (c .before .if1 .taken))))
 
 shape-of-requires : tie.Need-shape-of-requires
 shape-of-requires c κs = search needs
@@ -35,27 +30,24 @@ at-end-requires-2 c κs = search needs
 cast-first-from : tie.Need-cast-first-from
 cast-first-from c = search needs
 
--- the header is accepted
-zero : (c : tie.Else1) → headerOf (c .before .before .before .before .args .table .now) .refusal ≡ 0
-zero c = ap (λ (h : Header). h .refusal) (sym (c .before .before .read .ensures)) ∙ c .if1 .left
-
--- the shape is that of the table
-shape : (c : tie.After-shape-of) → c .shape-of .result ≡ shapeOf (headerOf (c .before .before .before .before .before .args .table .now))
-shape c = c .shape-of .ensures ∙ ap shapeOf (c .before .before .before .read .ensures)
-
 first-from-requires : tie.Need-first-from-requires
 first-from-requires c κs =
     let d = c .before .before in
-    let t = d .before .before .before .before .before .args .table .now in
-    rw (shape d) (sound t (headerOf t) (accepted t (zero (d .before))))
+    let e = d .before .before in
+    let t = e .before .before .before .before .args .table .now in
+    let r = e .before .before .read in
+    rw (d .shape-of .ensures) (sound t (r .result .header) (read-accepted t (r .result) (r .ensures) (e .if1 .left)))
 
 returns-2 : tie.Need-returns-2
 returns-2 c =
     let d = c .before .before .before in
-    let t = d .before .before .before .before .before .args .table .now in
+    let e = d .before .before in
+    let t = e .before .before .before .before .args .table .now in
+    let r = e .before .before .read in
     starts t (c .first-from .result)
     (c .first-from .ensures
-    ∙ rw (shape d, c .before .before .at-end2 .ensures, d .before .before .before .read .ensures) (sym (start-accepted t (zero (d .before)))))
+    ∙ rw (d .shape-of .ensures, c .before .before .at-end2 .ensures)
+    (sym (start-read t (r .result) (r .ensures) (e .if1 .left))))
 
 pub start-spec : {M : Type 1} → statement M
 start-spec =

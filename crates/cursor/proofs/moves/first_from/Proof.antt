@@ -1,5 +1,5 @@
--- `first_from` meets its contract: from the present block on the first record is that of the whole. Each turn leaves one move fewer.
--- Assumes nothing.
+-- `first_from` meets its contract: from the present block on the first record is that of the whole. Each turn leaves
+-- one move fewer. Assumes nothing.
 use mathlib.Core.Path.{_≡_, refl, sym, ap, _∙_}
 use mathlib.Core.Bool.{true}
 use mathlib.Core.List.{List}
@@ -14,12 +14,14 @@ use Rattle.cursor.specs.Cursor.{inReach, firstFrom}
 use Rattle.cursor.specs.declared.Cursor.{Cursor}
 use Rattle.cursor.specs.declared.Step.{Step}
 use Rattle.cursor.specs.declared.Step.the-variants.{End}
-use Rattle.cursor.proofs.CursorLaws.{reach-block, reach-moves, from-end, from-outside, from-bad, from-record, from-empty}
+use Rattle.cursor.proofs.CursorLaws.{reach-block, reach-moves, from-end, from-outside, from-bad, from-record}
+use Rattle.cursor.proofs.CursorLaws.{from-empty}
 use Rattle.cursor.proofs.moves.first_from.Statement.{statement}
 use Rattle.cursor.proofs.moves.first_from.Tie as tie
 
 abbrev Inv-loop : tie.InvT-loop
-Inv-loop table shape back moves first block₀ made₀ block made = firstFrom table shape back moves first ≡ firstFrom table shape back made block
+Inv-loop table shape back moves first block₀ made₀ block made =
+    firstFrom table shape back moves first ≡ firstFrom table shape back made block
 
 abbrev μ-loop : tie.MeasureT-loop
 μ-loop table shape back moves first block₀ made₀ block made = shape .blocks - made
@@ -34,7 +36,8 @@ returns : tie.Need-returns Inv-loop μ-loop
 returns c =
     let l = c .before .before .before .loop in
     let v = c .before .before .before .before .before .args in
-    sym (l .inv ∙ from-outside (v .table .now) (v .shape) (v .back) (l .made) (l .block) (c .before .before .loop-test .taken) (sym (c .before .in-reach .ensures) ∙ not-true _ (c .if1 .taken)))
+    sym (l .inv ∙ from-outside (v .table .now) (v .shape) (v .back) (l .made) (l .block)
+    (c .before .before .loop-test .taken) (sym (c .before .in-reach .ensures) ∙ not-true _ (c .if1 .taken)))
 
 -- where the block is in reach
 module _ (c : tie.Else1 Inv-loop μ-loop) where
@@ -53,7 +56,8 @@ module _ (c : tie.Else1 Inv-loop μ-loop) where
   abbrev B : ℕ
   B = c .before .before .before .loop .block
 
-  so-far : firstFrom T G K (c .before .before .before .before .before .args .moves) (c .before .before .before .before .before .args .first) ≡ firstFrom T G K M B
+  so-far : firstFrom T G K (c .before .before .before .before .before .args .moves)
+      (c .before .before .before .before .before .args .first) ≡ firstFrom T G K M B
   so-far = c .before .before .before .loop .inv
 
   sound : Sound T G
@@ -80,7 +84,8 @@ enum-told c = search needs
 returns-2 : tie.Need-returns-2 Inv-loop μ-loop
 returns-2 c =
     let d = c .before .before .before in
-    sym (so-far d ∙ from-bad (T d) (G d) (K d) (M d) (B d) (met d) (enters d) (sym (c .before .before .count-in .ensures) ∙ c .enum-told .given .1))
+    sym (so-far d ∙ from-bad (T d) (G d) (K d) (M d) (B d) (met d) (enters d)
+    (sym (c .before .before .count-in .ensures) ∙ c .enum-told .given .1))
 
 cast-t12 : tie.Need-cast-t12 Inv-loop μ-loop
 cast-t12 c = let h = here (c .before .before .before .before .before) in search needs
@@ -89,7 +94,8 @@ returns-3 : tie.Need-returns-3 Inv-loop μ-loop
 returns-3 c =
     let d = c .before .before .before .before .before in
     let n = c .before .before .count .given in
-    sym (so-far d ∙ from-record (T d) (G d) (K d) (M d) (B d) (met d) (enters d) (n .0 .0) (sym (c .before .before .before .before .count-in .ensures) ∙ n .1) (c .if2 .taken))
+    sym (so-far d ∙ from-record (T d) (G d) (K d) (M d) (B d) (met d) (enters d) (n .0 .0)
+    (sym (c .before .before .before .before .count-in .ensures) ∙ n .1) (c .if2 .taken))
 
 next-of-requires : tie.Need-next-of-requires Inv-loop μ-loop
 next-of-requires c κs =
@@ -97,17 +103,22 @@ next-of-requires c κs =
     (here d .0, here d .1, head-inside (T d) (G d) (sound d) (B d) (here d .0) (here d .1))
 
 add-made : tie.Need-add-made Inv-loop μ-loop
-add-made c = let d = c .before .before .before .before .before .before in let l = reach-moves (G d) (B d) (M d) (enters d) in search needs
+add-made c =
+    let d = c .before .before .before .before .before .before in let l = reach-moves (G d) (B d) (M d)
+    (enters d) in search needs
 
 loop-less : tie.Need-loop-less Inv-loop μ-loop
-loop-less c = let d = c .before .before .before .before .before .before in let l = reach-moves (G d) (B d) (M d) (enters d) in omega arith
+loop-less c =
+    let d = c .before .before .before .before .before .before in let l = reach-moves (G d) (B d) (M d)
+    (enters d) in omega arith
 
 loop-again : tie.Need-loop-again Inv-loop μ-loop
 loop-again c =
     let d = c .before .before .before .before .before .before in
     let n = c .before .before .before .count .given in
     rw (c .next-of .ensures)
-    (so-far d ∙ from-empty (T d) (G d) (K d) (M d) (B d) (met d) (enters d) (n .0 .0) (sym (c .before .before .before .before .before .count-in .ensures) ∙ n .1) (c .before .if2 .left))
+    (so-far d ∙ from-empty (T d) (G d) (K d) (M d) (B d) (met d) (enters d) (n .0 .0)
+    (sym (c .before .before .before .before .before .count-in .ensures) ∙ n .1) (c .before .if2 .left))
 
 at-end-requires : tie.Need-at-end-requires Inv-loop μ-loop
 at-end-requires c κs = search needs

@@ -1,5 +1,6 @@
 -- `accepted` meets its contract, number by number. Assumes nothing.
-use Rattle.header.specs.Header.{acceptedWith}
+use Rattle.header.specs.Numbers.{numbersWith}
+use Rattle.header.specs.Answers.{acceptedWith}
 use borrow.Author.Needs.{needs}
 use Rattle.header.proofs.answer.accepted.Statement.{statement}
 use Rattle.header.proofs.answer.accepted.Tie as tie
@@ -14,7 +15,7 @@ names-at-requires : tie.Need-names-at-requires
 names-at-requires c κs = search needs
 
 returns : tie.Need-returns
-unfolding acceptedWith
+unfolding acceptedWith numbersWith
 returns c = rw (c .names-at .ensures, c .before .area-at .ensures, c .before .before .block-bytes .ensures)
 
 pub accepted-spec : {M : Type 1} → statement M

@@ -1,11 +1,12 @@
 -- `refused` meets its contract. Assumes nothing.
 use mathlib.Core.Path.{refl}
-use Rattle.header.specs.Header.{refusedWith}
+use Rattle.header.specs.Numbers.{noNumbers}
+use Rattle.header.specs.Answers.{refusedWith}
 use Rattle.header.proofs.answer.refused.Statement.{statement}
 use Rattle.header.proofs.answer.refused.Tie as tie
 
 returns : tie.Need-returns
-unfolding refusedWith
+unfolding refusedWith noNumbers
 returns c = refl
 
 pub refused-spec : {M : Type 1} → statement M

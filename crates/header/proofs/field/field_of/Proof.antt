@@ -2,7 +2,7 @@
 use mathlib.Core.Path.{_≡_, sym, _∙_}
 use Prim.Native.Nat.{_+_, _*_, _-_}
 use native.Mathlib.Omega.{arith}
-use Rattle.header.specs.Header.{fieldWith}
+use Rattle.header.specs.Numbers.{fieldWith}
 use Rattle.header.specs.Fields.{kindAt}
 use Rattle.header.specs.declared.kind.StoredKind.the-variants as StoredKind
 use Rattle.header.proofs.AcceptedLaws.{field-low, field-high, field-here}
@@ -38,7 +38,11 @@ shared-slice-read-width : tie.Need-shared-slice-read-width
 shared-slice-read-width c = search needs
 
 cast-of : tie.Need-cast-of
-cast-of c = let v = c .before .before .before .before .before .args in omega (arith, c .shared-slice-known3 .given (v .t2 .area + 2 * (v .f - 1) + 1))
+cast-of c =
+    let v = c .before .before .before .before .before .args in omega (
+      arith,
+      c .shared-slice-known3 .given (v .t2 .area + 2 * (v .f - 1) + 1),
+    )
 
 of-requires : tie.Need-of-requires
 of-requires c κs = search needs
@@ -53,7 +57,8 @@ returns-3 : tie.Need-returns-3
 unfolding fieldWith
 returns-3 c =
     let v = c .before .before .before .before .before .before .before .before .args in
-    let e : kindAt (v .t .now) (v .t2 .area) (v .f - 1) ≡ StoredKind.Unknown = sym (c .before .before .of .ensures) ∙ c .enum-told .given .1 in
+    let e : kindAt (v .t .now) (v .t2 .area) (v .f - 1) ≡ StoredKind.Unknown = sym (c .before .before .of .ensures)
+    ∙ c .enum-told .given .1 in
     sym (field-here (v .t .now) (v .t2) (v .f) (search needs) (search needs) ∙ rw e)
 
 mul-t13 : tie.Need-mul-t13
@@ -66,8 +71,14 @@ returns-4 : tie.Need-returns-4
 unfolding fieldWith
 returns-4 c =
     let v = c .before .before .before .before .before .before .before .before .before .before .args in
-    let e : kindAt (v .t .now) (v .t2 .area) (v .f - 1) ≡ StoredKind.Kind (c .before .before .kind .given .0 .0) = sym (c .before .before .before .before .of .ensures) ∙ c .before .before .kind .given .1 in
-    sym (field-here (v .t .now) (v .t2) (v .f) (search needs) (search needs) ∙ rw (e, ← c .before .before .before .before .before .before .before .before .before .before .pre .offset (v .f - 1) (search needs)))
+    let e : kindAt (v .t .now) (v .t2 .area) (v .f - 1) ≡ StoredKind.Kind (c .before .before .kind .given .0 .0) = sym
+    (c .before .before .before .before .of .ensures) ∙ c .before .before .kind .given .1 in
+    sym (field-here (v .t .now) (v .t2) (v .f) (search needs) (search needs)
+    ∙ rw (
+      e,
+      ← c .before .before .before .before .before .before .before .before .before .before .pre .offset (v .f - 1)
+          (search needs),
+    ))
 
 pub field-of-spec : {M : Type 1} → statement M
 field-of-spec =

@@ -15,7 +15,8 @@ abbrev μ-loop : tie.MeasureT-loop
 μ-loop t area keys n offsets₀ sum₀ f₀ offsets sum f = n - f
 
 loop-holds : tie.Need-loop-holds Inv-loop μ-loop
-loop-holds c = let v = c .before .args in added-none (v .t .now) (v .area) (v .keys) (v .n) (v .offsets .now) (c .before .pre .2)
+loop-holds c =
+    let v = c .before .args in added-none (v .t .now) (v .area) (v .keys) (v .n) (v .offsets .now) (c .before .pre .2)
 
 mul-width-at : tie.Need-mul-width-at Inv-loop μ-loop
 mul-width-at c = search needs
@@ -36,7 +37,8 @@ returns : tie.Need-returns Inv-loop μ-loop
 returns c =
     let l = c .before .before .before .before in
     let v = l .before .before .args in (
-      sym (added-broken (v .t .now) (v .area) (v .keys) (v .n) (l .loop .offsets) (l .loop .sum) (l .loop .f) (l .loop .inv) (search needs) (sym (c .before .before .width-at .ensures) ∙ c .enum-told .given .1)),
+      sym (added-broken (v .t .now) (v .area) (v .keys) (v .n) (l .loop .offsets) (l .loop .sum) (l .loop .f)
+          (l .loop .inv) (search needs) (sym (c .before .before .width-at .ensures) ∙ c .enum-told .given .1)),
       λ e. absurd (false≢true e),
     )
 
@@ -45,7 +47,9 @@ small : (c : tie.After-known-told Inv-loop μ-loop) → c .before .width .given 
 small c =
     let l = c .before .before .before .before .before in
     let v = l .before .before .args in
-    added-byte (v .t .now) (v .area) (v .keys) (v .n) (l .loop .offsets) (l .loop .sum) (l .loop .f) (l .loop .inv) (search needs) (λ i. omega (arith, l .before .shared-slice-known .given i)) (c .before .width .given .0 .0) (sym (c .before .before .before .width-at .ensures) ∙ c .before .width .given .1)
+    added-byte (v .t .now) (v .area) (v .keys) (v .n) (l .loop .offsets) (l .loop .sum) (l .loop .f) (l .loop .inv)
+    (search needs) (λ i. omega (arith, l .before .shared-slice-known .given i)) (c .before .width .given .0 .0)
+    (sym (c .before .before .before .width-at .ensures) ∙ c .before .width .given .1)
 
 cast-sum : tie.Need-cast-sum Inv-loop μ-loop
 cast-sum c = omega (arith, small c)
@@ -54,7 +58,11 @@ add-sum : tie.Need-add-sum Inv-loop μ-loop
 add-sum c =
     let l = c .before .before .before .before .before in
     let v = l .before .before .args in
-    record { fits = added-small (v .t .now) (v .area) (v .keys) (v .n) (l .loop .offsets) (l .loop .sum) (l .loop .f) (l .loop .inv) (search needs) (λ i. omega (arith, l .before .shared-slice-known .given i)) (search needs) (c .before .width .given .0 .0) (small c) }
+    record {
+      fits = added-small (v .t .now) (v .area) (v .keys) (v .n) (l .loop .offsets) (l .loop .sum) (l .loop .f)
+          (l .loop .inv) (search needs) (λ i. omega (arith, l .before .shared-slice-known .given i)) (search needs)
+          (c .before .width .given .0 .0) (small c);
+    }
 
 add-f : tie.Need-add-f Inv-loop μ-loop
 add-f c = search needs
@@ -72,7 +80,9 @@ loop-again : tie.Need-loop-again Inv-loop μ-loop
 loop-again c =
     let l = c .before .before .before .before .before in
     let v = l .before .before .args in
-    added-more (v .t .now) (v .area) (v .keys) (v .n) (l .loop .offsets) (l .loop .sum) (l .loop .f) (l .loop .inv) (search needs) (c .before .width .given .0 .0) (sym (c .before .before .before .width-at .ensures) ∙ c .before .width .given .1)
+    added-more (v .t .now) (v .area) (v .keys) (v .n) (l .loop .offsets) (l .loop .sum) (l .loop .f) (l .loop .inv)
+    (search needs) (c .before .width .given .0 .0)
+    (sym (c .before .before .before .width-at .ensures) ∙ c .before .width .given .1)
 
 returns-2 : tie.Need-returns-2 Inv-loop μ-loop
 returns-2 c =

@@ -35,7 +35,8 @@ enum-told c = search needs
 returns : tie.Need-returns
 returns c =
     let v = c .before .before .before .before .before .before .args in
-    sym (width-unknown (v .keyed) (kindOf (byte (v .t .now) (v .at)) (byte (v .t .now) (v .at + 1))) (byte (v .t .now) (v .at + 1)) (sym (c .before .before .of .ensures) ∙ c .enum-told .given .1))
+    sym (width-unknown (v .keyed) (kindOf (byte (v .t .now) (v .at)) (byte (v .t .now) (v .at + 1)))
+    (byte (v .t .now) (v .at + 1)) (sym (c .before .before .of .ensures) ∙ c .enum-told .given .1))
 
 is-blob-requires : tie.Need-is-blob-requires
 is-blob-requires c κs = search needs
@@ -45,14 +46,20 @@ unfolding judgedIf
 returns-2 c =
     let k = c .before .before .before .before .before in
     let v = k .before .before .before .before .args in
-    sym (width-known (v .keyed) (kindOf (byte (v .t .now) (v .at)) (byte (v .t .now) (v .at + 1))) (c .before .before .before .kind .given .0 .0) (byte (v .t .now) (v .at + 1)) true (sym (k .of .ensures) ∙ c .before .before .before .kind .given .1) (rw (← c .before .is-blob .ensures) (c .if1 .taken)))
+    sym (width-known (v .keyed) (kindOf (byte (v .t .now) (v .at)) (byte (v .t .now) (v .at + 1)))
+    (c .before .before .before .kind .given .0 .0) (byte (v .t .now) (v .at + 1)) true
+    (sym (k .of .ensures) ∙ c .before .before .before .kind .given .1)
+    (rw (← c .before .is-blob .ensures) (c .if1 .taken)))
 
 returns-3 : tie.Need-returns-3
 unfolding judgedIf
 returns-3 c =
     let k = c .before .before .before .before .before in
     let v = k .before .before .before .before .args in
-    sym (width-known (v .keyed) (kindOf (byte (v .t .now) (v .at)) (byte (v .t .now) (v .at + 1))) (c .before .before .before .kind .given .0 .0) (byte (v .t .now) (v .at + 1)) false (sym (k .of .ensures) ∙ c .before .before .before .kind .given .1) (rw (← c .before .is-blob .ensures) (c .if1 .left)))
+    sym (width-known (v .keyed) (kindOf (byte (v .t .now) (v .at)) (byte (v .t .now) (v .at + 1)))
+    (c .before .before .before .kind .given .0 .0) (byte (v .t .now) (v .at + 1)) false
+    (sym (k .of .ensures) ∙ c .before .before .before .kind .given .1)
+    (rw (← c .before .is-blob .ensures) (c .if1 .left)))
 
 pub width-at-spec : {M : Type 1} → statement M
 width-at-spec =

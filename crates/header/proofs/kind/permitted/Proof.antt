@@ -5,10 +5,13 @@ use Rattle.header.proofs.kind.permitted.Statement.{statement}
 use Rattle.header.proofs.kind.permitted.Tie as tie
 
 returns : tie.Need-returns
-returns c = let v = c .before .before .args in sym (permit-within (v .kind) (v .width) (v .least) (v .most) (c .before .if1 .taken) (c .if2 .taken))
+returns c =
+    let v = c .before .before .args in sym (permit-within (v .kind) (v .width) (v .least) (v .most)
+    (c .before .if1 .taken) (c .if2 .taken))
 
 returns-2 : tie.Need-returns-2
-returns-2 c = let v = c .before .before .args in sym (permit-wide (v .kind) (v .width) (v .least) (v .most) (c .if2 .left))
+returns-2 c =
+    let v = c .before .before .args in sym (permit-wide (v .kind) (v .width) (v .least) (v .most) (c .if2 .left))
 
 returns-3 : tie.Need-returns-3
 returns-3 c = let v = c .before .args in sym (permit-narrow (v .kind) (v .width) (v .least) (v .most) (c .if1 .left))

@@ -24,7 +24,11 @@ returns : tie.Need-returns Inv-loop μ-loop
 returns c =
     let l = c .before .before in
     let v = l .before .args in
-    sym (name-beyond (v .t .now) (v .end) (v .at) (omega (arith, c .if1 .taken, before-least (v .t .now) (v .at) 26 (l .loop .i) (l .loop .inv .0) (l .loop .inv .1))))
+    sym (name-beyond (v .t .now) (v .end) (v .at) (omega (
+      arith,
+      c .if1 .taken,
+      before-least (v .t .now) (v .at) 26 (l .loop .i) (l .loop .inv .0) (l .loop .inv .1),
+    )))
 
 add-if2 : tie.Need-add-if2 Inv-loop μ-loop
 add-if2 c = search needs
@@ -36,7 +40,8 @@ returns-2 : tie.Need-returns-2 Inv-loop μ-loop
 returns-2 c =
     let l = c .before .before .before .before .before in
     let v = l .before .args in
-    sym (name-empty (v .t .now) (v .end) (v .at) (before-is (v .t .now) (v .at) 26 (l .loop .i) (search needs) (l .loop .inv .1) (c .before .if2 .taken) ∙ c .if3 .taken))
+    sym (name-empty (v .t .now) (v .end) (v .at) (before-is (v .t .now) (v .at) 26 (l .loop .i) (search needs)
+    (l .loop .inv .1) (c .before .if2 .taken) ∙ c .if3 .taken))
 
 add-t10 : tie.Need-add-t10 Inv-loop μ-loop
 add-t10 c = search needs
@@ -48,7 +53,9 @@ returns-3 : tie.Need-returns-3 Inv-loop μ-loop
 returns-3 c =
     let l = c .before .before .before .before .before in
     let v = l .before .args in
-    sym (name-fits (v .t .now) (v .end) (v .at) (l .loop .i) (before-is (v .t .now) (v .at) 26 (l .loop .i) (search needs) (l .loop .inv .1) (c .before .if2 .taken)) (search needs) (search needs) (search needs))
+    sym (name-fits (v .t .now) (v .end) (v .at) (l .loop .i)
+    (before-is (v .t .now) (v .at) 26 (l .loop .i) (search needs) (l .loop .inv .1) (c .before .if2 .taken))
+    (search needs) (search needs) (search needs))
 
 add-i : tie.Need-add-i Inv-loop μ-loop
 add-i c = search needs
@@ -66,7 +73,11 @@ returns-4 : tie.Need-returns-4 Inv-loop μ-loop
 returns-4 c =
     let l = c .before in
     let v = l .before .args in
-    sym (name-long (v .t .now) (v .end) (v .at) (omega (arith, c .loop-test .left, before-least (v .t .now) (v .at) 26 (l .loop .i) (l .loop .inv .0) (l .loop .inv .1))))
+    sym (name-long (v .t .now) (v .end) (v .at) (omega (
+      arith,
+      c .loop-test .left,
+      before-least (v .t .now) (v .at) 26 (l .loop .i) (l .loop .inv .0) (l .loop .inv .1),
+    )))
 
 pub name-end-spec : {M : Type 1} → statement M
 name-end-spec =

@@ -28,7 +28,8 @@ returns : tie.Need-returns Inv-loop μ-loop
 returns c =
     let l = c .before .before .before .before in
     let v = l .before .before .args in
-    sym (names-broken (v .t .now) (v .end) (v .n) (v .start) (l .loop .i) (l .loop .at) (l .loop .inv) (search needs) (sym (c .before .before .name-end .ensures) ∙ c .enum-told .given .1))
+    sym (names-broken (v .t .now) (v .end) (v .n) (v .start) (l .loop .i) (l .loop .at) (l .loop .inv) (search needs)
+    (sym (c .before .before .name-end .ensures) ∙ c .enum-told .given .1))
 
 add-i : tie.Need-add-i Inv-loop μ-loop
 add-i c = search needs
@@ -40,7 +41,8 @@ loop-again : tie.Need-loop-again Inv-loop μ-loop
 loop-again c =
     let l = c .before .before .before .before .before in
     let v = l .before .before .args in
-    names-more (v .t .now) (v .end) (v .n) (v .start) (l .loop .i) (l .loop .at) (l .loop .inv) (search needs) (c .before .next .given .0 .0) (sym (c .before .before .before .name-end .ensures) ∙ c .before .next .given .1)
+    names-more (v .t .now) (v .end) (v .n) (v .start) (l .loop .i) (l .loop .at) (l .loop .inv) (search needs)
+    (c .before .next .given .0 .0) (sym (c .before .before .before .name-end .ensures) ∙ c .before .next .given .1)
 
 returns-2 : tie.Need-returns-2 Inv-loop μ-loop
 returns-2 c =

@@ -18,7 +18,11 @@ is-keyed-right-requires c κs = search needs
 
 returns : tie.Need-returns
 unfolding limitsKept
-returns c = rw (c .is-keyed-right .ensures, c .before .before .before .before .before .before .before .before .before .before .before .block-size .ensures)
+returns c =
+    rw (
+      c .is-keyed-right .ensures,
+      c .before .before .before .before .before .before .before .before .before .before .before .block-size .ensures,
+    )
 
 pub limits-kept-spec : {M : Type 1} → statement M
 limits-kept-spec =

@@ -45,7 +45,18 @@ word-requires-8 c κs = search needs
 
 returns : tie.Need-returns
 unfolding storedOf
-returns c = rw (c .word8 .ensures, c .before .before .before .word7 .ensures, c .before .before .before .before .word6 .ensures, c .before .before .before .before .before .word5 .ensures, c .before .before .before .before .before .before .word4 .ensures, c .before .before .before .before .before .before .before .word3 .ensures, c .before .before .before .before .before .before .before .before .long .ensures, c .before .before .before .before .before .before .before .before .before .before .before .word2 .ensures, c .before .before .before .before .before .before .before .before .before .before .before .before .word .ensures)
+returns c =
+    rw (
+      c .word8 .ensures,
+      c .before .before .before .word7 .ensures,
+      c .before .before .before .before .word6 .ensures,
+      c .before .before .before .before .before .word5 .ensures,
+      c .before .before .before .before .before .before .word4 .ensures,
+      c .before .before .before .before .before .before .before .word3 .ensures,
+      c .before .before .before .before .before .before .before .before .long .ensures,
+      c .before .before .before .before .before .before .before .before .before .before .before .word2 .ensures,
+      c .before .before .before .before .before .before .before .before .before .before .before .before .word .ensures,
+    )
 
 pub read-stored-spec : {M : Type 1} → statement M
 read-stored-spec =

@@ -1,8 +1,5 @@
 -- `show` meets its callees' contracts: a header with refusal 0 is accepted. Assumes nothing.
-use mathlib.Core.Path.{_≡_, sym, ap, _∙_}
-use Rattle.header.specs.Header.{headerOf}
-use Rattle.header.specs.declared.Header.{Header}
-use Rattle.header.proofs.AcceptedLaws.{accepted}
+use Rattle.header.proofs.AcceptedLaws.{read-accepted}
 use borrow.Author.Needs.{needs}
 use Rattle.header_test.proofs.print.show.Statement.{statement}
 use Rattle.header_test.proofs.print.show.Tie as tie
@@ -13,15 +10,20 @@ write-all-requires c κs = search needs
 read-requires : tie.Need-read-requires
 read-requires c κs = search needs
 
+slice-aggregate-byte : tie.Need-slice-aggregate-byte
+slice-aggregate-byte c = search needs
+
+byte-requires : tie.Need-byte-requires
+byte-requires c κs = search needs
+
 numbers-requires : tie.Need-numbers-requires
 numbers-requires c κs = search needs
 
 field-lines-requires : tie.Need-field-lines-requires
 field-lines-requires c κs =
-    let r = c .before .before .before in
+    let r = c .before .before .before .before .before .before in
     let t = r .before .before .before .before .args .t .now in
-    let e : headerOf t .refusal ≡ 0 = ap (λ (h : Header). h .refusal) (sym (r .read .ensures)) ∙ c .if1 .taken in
-    rw (r .read .ensures) (accepted t e)
+    read-accepted t (r .read .result) (r .read .ensures) (c .if1 .taken)
 
 returns : tie.Need-returns
 returns c = search needs
@@ -35,6 +37,8 @@ show-spec =
     (tie.spec
     write-all-requires
     read-requires
+    slice-aggregate-byte
+    byte-requires
     numbers-requires
     field-lines-requires
     returns

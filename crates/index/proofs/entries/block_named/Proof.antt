@@ -14,11 +14,16 @@ number-requires c κs = search needs
 cast-result : tie.Need-cast-result
 cast-result c =
     let v = c .before .before .before .args in
-    omega (arith, c .before .number .ensures, big-lt (v .x .now) (v .at) 2 (λ i. omega (arith, c .before .before .shared-slice-known .given i)))
+    omega (
+      arith,
+      c .before .number .ensures,
+      big-lt (v .x .now) (v .at) 2 (λ i. omega (arith, c .before .before .shared-slice-known .given i)),
+    )
 
 returns : tie.Need-returns
 unfolding blockNumber
-returns c = sym (rw (← (c .before .number .ensures)) (complemented-from 32768 (c .before .number .result) (c .if1 .taken)))
+returns c =
+    sym (rw (← (c .before .number .ensures)) (complemented-from 32768 (c .before .number .result) (c .if1 .taken)))
 
 add-result : tie.Need-add-result
 add-result c = search needs
@@ -28,7 +33,8 @@ cast-result-2 c = search needs
 
 returns-2 : tie.Need-returns-2
 unfolding blockNumber
-returns-2 c = sym (rw (← (c .before .number .ensures)) (complemented-below 32768 (c .before .number .result) (c .if1 .left)))
+returns-2 c =
+    sym (rw (← (c .before .number .ensures)) (complemented-below 32768 (c .before .number .result) (c .if1 .left)))
 
 pub block-named-spec : {M : Type 1} → statement M
 block-named-spec =

@@ -3,7 +3,8 @@ use mathlib.Core.Path.{sym, ap, subst, _∙_}
 use Prim.Native.Nat.{ℕ, _+_, _<_}
 use native.Mathlib.Omega.{arith}
 use lib.ListN.{length}
-use Rattle.table.specs.Steps.{RunInside}
+use Rattle.blocks.specs.Shape.{RunInside}
+use Rattle.index.specs.Header.{entryNumbers}
 use Rattle.index.specs.Entries.{below}
 use Rattle.index.specs.declared.entries.Descent.{Descent}
 use Rattle.index.specs.declared.entries.Descent.the-variants.{Read}
@@ -18,7 +19,8 @@ entries-in-requires c κs = c .before .before .pre .sound
 returns : tie.Need-returns
 returns c =
     let v = c .before .before .before .before .args in
-    sym (descent-refused (v .x .now) (v .shape) (v .block) (v .key .now) (sym (c .before .entries-in .ensures) ∙ c .if1 .taken))
+    sym (descent-refused (v .x .now) (v .shape) (v .block) (v .key .now)
+    (sym (c .before .entries-in .ensures) ∙ c .if1 .taken))
 
 some : (c : tie.Else1) → 0 < c .before .entries-in .result
 some c = search needs
@@ -30,8 +32,9 @@ find-below-requires : tie.Need-find-below-requires
 find-below-requires c κs =
     let v = c .before .before .before .before .args in
     let e = c .before .entries-in .ensures in
-    subst (λ (n : ℕ). RunInside (v .x .now) (v .shape) (length (v .key .now) + 6) (v .block) n) (sym e)
-    (entries-inside (v .x .now) (v .shape) (v .block) (length (v .key .now)) (c .before .before .before .before .pre) (omega (arith, e, some c)) (omega (arith, e, few c)))
+    subst (λ (n : ℕ). RunInside (v .x .now) (v .shape) (length (v .key .now) + entryNumbers) (v .block) n) (sym e)
+    (entries-inside (v .x .now) (v .shape) (v .block) (length (v .key .now)) (c .before .before .before .before .pre)
+    (omega (arith, e, some c)) (omega (arith, e, few c)))
 
 returns-2 : tie.Need-returns-2
 returns-2 c =

@@ -19,7 +19,8 @@ has-block-requires c κs = search needs
 returns : tie.Need-returns
 returns c =
     let v = c .before .before .before .args in
-    sym (entries-outside (v .x .now) (v .shape) (v .block) (sym (c .before .has-block .ensures) ∙ not-true _ (c .if1 .taken)))
+    sym (entries-outside (v .x .now) (v .shape) (v .block)
+    (sym (c .before .has-block .ensures) ∙ not-true _ (c .if1 .taken)))
 
 count-in-requires : tie.Need-count-in-requires
 count-in-requires c κs =
@@ -36,12 +37,15 @@ enum-told c = search needs
 returns-2 : tie.Need-returns-2
 returns-2 c =
     let v = c .before .before .before .before .before .before .args in
-    sym (entries-bad (v .x .now) (v .shape) (v .block) (inside (c .before .before .before)) (sym (c .before .before .count-in .ensures) ∙ c .enum-told .given .1))
+    sym (entries-bad (v .x .now) (v .shape) (v .block) (inside (c .before .before .before))
+    (sym (c .before .before .count-in .ensures) ∙ c .enum-told .given .1))
 
 returns-3 : tie.Need-returns-3
 returns-3 c =
     let v = c .before .before .before .before .before .before .before .args in
-    sym (entries-counted (v .x .now) (v .shape) (v .block) (c .before .count .given .0 .0) (inside (c .before .before .before .before)) (sym (c .before .before .before .count-in .ensures) ∙ c .before .count .given .1))
+    sym (entries-counted (v .x .now) (v .shape) (v .block) (c .before .count .given .0 .0)
+    (inside (c .before .before .before .before)) (sym (c .before .before .before .count-in .ensures)
+    ∙ c .before .count .given .1))
 
 pub entries-in-spec : {M : Type 1} → statement M
 entries-in-spec =

@@ -33,8 +33,15 @@ record-at-requires c κs = search needs
 compare-requires : tie.Need-compare-requires Inv-loop μ-loop
 compare-requires c κs =
     let r = c .before .before .before .before .before .pre in
-    let l = c .before .before .loop in
-    (omega (arith, c .record-at .ensures, r .short, r .inside (l .i - 1) (omega (arith, l .inv .0, c .before .loop-test .taken))), omega arith)
+    let l = c .before .before .loop in (
+      omega (
+        arith,
+        c .record-at .ensures,
+        r .short,
+        r .inside (l .i - 1) (omega (arith, l .inv .0, c .before .loop-test .taken)),
+      ),
+      omega arith,
+    )
 
 is-at-most-requires : tie.Need-is-at-most-requires Inv-loop μ-loop
 is-at-most-requires c κs = search needs
@@ -43,20 +50,33 @@ add-block-named : tie.Need-add-block-named Inv-loop μ-loop
 add-block-named c =
     let r = c .before .before .before .before .before .before .before .before .pre in
     let l = c .before .before .before .before .before .loop in
-    omega (arith, c .before .before .before .record-at .ensures, r .short, r .inside (l .i - 1) (omega (arith, l .inv .0, c .before .before .before .before .loop-test .taken)))
+    omega (
+      arith,
+      c .before .before .before .record-at .ensures,
+      r .short,
+      r .inside (l .i - 1) (omega (arith, l .inv .0, c .before .before .before .before .loop-test .taken)),
+    )
 
 block-named-requires : tie.Need-block-named-requires Inv-loop μ-loop
 block-named-requires c κs =
     let r = c .before .before .before .before .before .before .before .before .pre in
     let l = c .before .before .before .before .before .loop in
-    omega (arith, c .before .before .before .record-at .ensures, r .short, r .inside (l .i - 1) (omega (arith, l .inv .0, c .before .before .before .before .loop-test .taken)))
+    omega (
+      arith,
+      c .before .before .before .record-at .ensures,
+      r .short,
+      r .inside (l .i - 1) (omega (arith, l .inv .0, c .before .before .before .before .loop-test .taken)),
+    )
 
 -- the test is the definition's
 tested : (c : tie.After-is-at-most Inv-loop μ-loop) →
     let l = c .before .before .before .before .loop in
     let v = c .before .before .before .before .before .before .before .args in
-    isAtMost (order (entryKey (v .x .now) (v .shape) (length (v .key .now)) (v .block) (l .i - 1)) (v .key .now)) ≡ c .is-at-most .result
-tested c = sym (c .is-at-most .ensures ∙ ap isAtMost (c .before .compare .ensures) ∙ rw (c .before .before .record-at .ensures, take-length))
+    isAtMost (order (entryKey (v .x .now) (v .shape) (length (v .key .now)) (v .block) (l .i - 1))
+    (v .key .now)) ≡ c .is-at-most .result
+tested c =
+    sym (c .is-at-most .ensures ∙ ap isAtMost (c .before .compare .ensures)
+    ∙ rw (c .before .before .record-at .ensures, take-length))
 
 returns : tie.Need-returns Inv-loop μ-loop
 unfolding entryBlock
@@ -64,7 +84,8 @@ returns c =
     let v = c .before .before .before .before .before .before .before .before .before .args in
     let l = c .before .before .before .before .before .before .loop in
     sym (l .inv .1
-    ∙ below-hit (v .x .now) (v .shape) (v .block) (v .key .now) (l .i) (c .before .before .before .before .before .loop-test .taken) (tested (c .before .before) ∙ c .before .if1 .taken)
+    ∙ below-hit (v .x .now) (v .shape) (v .block) (v .key .now) (l .i)
+    (c .before .before .before .before .before .loop-test .taken) (tested (c .before .before) ∙ c .before .if1 .taken)
     ∙ rw (c .block-named .ensures, c .before .before .before .before .record-at .ensures))
 
 loop-less : tie.Need-loop-less Inv-loop μ-loop
@@ -73,8 +94,11 @@ loop-less c = search needs
 loop-again : tie.Need-loop-again Inv-loop μ-loop
 loop-again c =
     let v = c .before .before .before .before .before .before .before .before .args in
-    let l = c .before .before .before .before .before .loop in
-    (search needs, l .inv .1 ∙ below-miss (v .x .now) (v .shape) (v .block) (v .key .now) (l .i) (c .before .before .before .before .loop-test .taken) (tested (c .before) ∙ c .if1 .left))
+    let l = c .before .before .before .before .before .loop in (
+      search needs,
+      l .inv .1 ∙ below-miss (v .x .now) (v .shape) (v .block) (v .key .now) (l .i)
+          (c .before .before .before .before .loop-test .taken) (tested (c .before) ∙ c .if1 .left),
+    )
 
 returns-2 : tie.Need-returns-2 Inv-loop μ-loop
 returns-2 c =

@@ -30,7 +30,13 @@ shared-slice-read-t13 c = search needs
 
 returns : tie.Need-returns
 unfolding storedOf
-returns c = rw (c .before .before .word4 .ensures, c .before .before .before .word3 .ensures, c .before .before .before .before .before .before .word2 .ensures, c .before .before .before .before .before .before .before .word .ensures)
+returns c =
+    rw (
+      c .before .before .word4 .ensures,
+      c .before .before .before .word3 .ensures,
+      c .before .before .before .before .before .before .word2 .ensures,
+      c .before .before .before .before .before .before .before .word .ensures,
+    )
 
 pub read-stored-spec : {M : Type 1} → statement M
 read-stored-spec =

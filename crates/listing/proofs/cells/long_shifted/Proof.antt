@@ -18,10 +18,14 @@ add-result : tie.Need-add-result
 add-result c = sum-fits w32 (c .args .z) 2147483648 (c .fits .z) refl (lit≤ tt)
 
 cast-result-3 : tie.Need-cast-result-3
-cast-result-3 c = rw (total w32 (c .args .z) 2147483648 (c .fits .z) refl (lit≤ tt)) (tt, total-fits w32 (c .args .z) 2147483648 (c .fits .z) refl (lit≤ tt))
+cast-result-3 c =
+    rw (total w32 (c .args .z) 2147483648 (c .fits .z) refl (lit≤ tt))
+    (tt, total-fits w32 (c .args .z) 2147483648 (c .fits .z) refl (lit≤ tt))
 
 returns : tie.Need-returns
-returns c = rw (total w32 (c .args .z) 2147483648 (c .fits .z) refl (lit≤ tt)) (shifted-is 2147483648 (c .args .z) (c .fits .z .sfits))
+returns c =
+    rw (total w32 (c .args .z) 2147483648 (c .fits .z) refl (lit≤ tt))
+    (shifted-is 2147483648 (c .args .z) (c .fits .z .sfits))
 
 pub long-shifted-spec : {M : Type 1} → statement M
 long-shifted-spec = tie.close (tie.spec cast-result cast-result-2 add-result cast-result-3 returns)

@@ -3,9 +3,11 @@ use mathlib.Core.Path.{_≡_, ap, _∙_}
 use Prim.Native.Nat.{ℕ, _+_, _-_, _≤_}
 use native.Mathlib.Omega.{arith}
 use lib.ListN.{length, take, drop}
-use Rattle.listing.specs.Text.{signedText}
-use Rattle.listing.proofs.PutLaws.{room-as, wrote-as, wrote-nothing}
-use Rattle.listing.proofs.CellLaws.{textOf, blank-text, short-text, long-text, date-text, number-text, logical-text, part-text, number-finite, part-inside}
+use Rattle.buffer.specs.Text.{signedText, shiftedText}
+use Rattle.buffer.proofs.PieceLaws.{room-as, wrote-as, wrote-nothing}
+use Rattle.listing.specs.Steps.{valueText}
+use Rattle.listing.proofs.CellLaws.{blank-text, short-text, long-text, date-text, number-text, logical-text}
+use Rattle.listing.proofs.CellLaws.{part-text, number-finite, part-inside}
 use borrow.Author.Needs.{needs}
 use Rattle.listing.proofs.cells.put_value.Statement.{statement}
 use Rattle.listing.proofs.cells.put_value.Tie as tie
@@ -19,8 +21,16 @@ enum-known-value c = search needs
 short-shifted-requires : tie.Need-short-shifted-requires
 short-shifted-requires c κs = search needs
 
+-- a short's text
+short-is : (c : tie.After-short-shifted) →
+    let v = c .before .before .before .before .before .before .before .args in
+    shiftedText 32768 (c .short-shifted .result) ≡ valueText (v .table .now) (v .value)
+short-is c =
+    let e = c .before .before .before .value .given .1 in
+    short-text _ _ _ _ e (c .short-shifted .ensures ∙ ap signedText (search needs))
+
 put-shifted-requires : tie.Need-put-shifted-requires
-put-shifted-requires c κs = room-as (short-text _ _ _ _ (c .before .before .before .value .given .1) (c .short-shifted .ensures ∙ ap signedText (search needs))) (c .before .before .before .before .before .before .before .pre .0)
+put-shifted-requires c κs = room-as (short-is c) (c .before .before .before .before .before .before .before .pre .0)
 
 enum-known-value-2 : tie.Need-enum-known-value-2
 enum-known-value-2 c = search needs
@@ -28,8 +38,16 @@ enum-known-value-2 c = search needs
 long-shifted-requires : tie.Need-long-shifted-requires
 long-shifted-requires c κs = search needs
 
+-- a long's
+long-is : (c : tie.After-long-shifted) →
+    let v = c .before .before .before .before .before .before .before .args in
+    shiftedText 2147483648 (c .long-shifted .result) ≡ valueText (v .table .now) (v .value)
+long-is c =
+    let e = c .before .before .before .value2 .given .1 in
+    long-text _ _ _ _ e (c .long-shifted .ensures ∙ ap signedText (search needs))
+
 put-shifted-requires-2 : tie.Need-put-shifted-requires-2
-put-shifted-requires-2 c κs = room-as (long-text _ _ _ _ (c .before .before .before .value2 .given .1) (c .long-shifted .ensures ∙ ap signedText (search needs))) (c .before .before .before .before .before .before .before .pre .0)
+put-shifted-requires-2 c κs = room-as (long-is c) (c .before .before .before .before .before .before .before .pre .0)
 
 enum-known-value-3 : tie.Need-enum-known-value-3
 enum-known-value-3 c = search needs
@@ -38,7 +56,9 @@ cast-put-decimal : tie.Need-cast-put-decimal
 cast-put-decimal c = search needs
 
 put-decimal-requires : tie.Need-put-decimal-requires
-put-decimal-requires c κs = room-as (date-text _ _ _ (c .before .before .value3 .given .1)) (c .before .before .before .before .before .before .pre .0)
+put-decimal-requires c κs =
+    let e = c .before .before .value3 .given .1 in
+    room-as (date-text _ _ _ e) (c .before .before .before .before .before .before .pre .0)
 
 enum-known-value-4 : tie.Need-enum-known-value-4
 enum-known-value-4 c = search needs
@@ -46,7 +66,8 @@ enum-known-value-4 c = search needs
 put-number-requires : tie.Need-put-number-requires
 put-number-requires c κs =
     let e = c .before .before .value4 .given .1 in
-    (room-as (number-text _ _ _ e) (c .before .before .before .before .before .before .pre .0), number-finite _ _ _ e (c .before .before .before .before .before .before .pre .1))
+    let p = c .before .before .before .before .before .before .pre in
+    (room-as (number-text _ _ _ e) (p .0), number-finite _ _ _ e (p .1))
 
 enum-known-value-5 : tie.Need-enum-known-value-5
 enum-known-value-5 c = search needs
@@ -55,14 +76,21 @@ letter-of-requires : tie.Need-letter-of-requires
 letter-of-requires c κs = search needs
 
 put-byte-requires : tie.Need-put-byte-requires
-put-byte-requires c κs = room-as (logical-text _ _ _ _ (c .before .before .before .value5 .given .1) (c .letter-of .ensures)) (c .before .before .before .before .before .before .before .pre .0)
+put-byte-requires c κs =
+    let l = logical-text _ _ _ _ (c .before .before .before .value5 .given .1) (c .letter-of .ensures) in
+    room-as l (c .before .before .before .before .before .before .before .pre .0)
 
 enum-known-value-6 : tie.Need-enum-known-value-6
 enum-known-value-6 c = search needs
 
 -- the text is inside the table
-inside : (c : tie.After-put-bytes-arg) → let g = c .before .before .value6 .given .0 in g .0 + g .1 .0 ≤ length (c .before .before .before .before .before .before .args .table .now)
-inside c = part-inside _ _ _ _ (c .before .before .value6 .given .1) (c .before .before .before .before .before .before .pre .1)
+inside : (c : tie.After-put-bytes-arg) →
+    let v = c .before .before .before .before .before .before .args in
+    let g = c .before .before .value6 .given .0 in
+    g .0 + g .1 .0 ≤ length (v .table .now)
+inside c =
+    let e = c .before .before .value6 .given .1 in
+    part-inside _ _ _ _ e (c .before .before .before .before .before .before .pre .1)
 
 add-put-bytes : tie.Need-add-put-bytes
 add-put-bytes c = omega (arith, inside c)
@@ -80,7 +108,7 @@ part-put-bytes-end c = inside c
 part-is : (c : tie.After-put-bytes-arg) →
     let v = c .before .before .before .before .before .before .args in
     let g = c .before .before .value6 .given .0 in
-    take (g .0 + g .1 .0 - g .0) (drop (g .0) (v .table .now)) ≡ textOf (v .table .now) (v .value)
+    take (g .0 + g .1 .0 - g .0) (drop (g .0) (v .table .now)) ≡ valueText (v .table .now) (v .value)
 part-is c =
     let v = c .before .before .before .before .before .before .args in
     let g = c .before .before .value6 .given in
@@ -88,7 +116,9 @@ part-is c =
     ap (λ (n : ℕ). take n (drop (g .0 .0) (v .table .now))) l ∙ part-text _ _ _ _ (g .1) (inside c)
 
 put-bytes-requires : tie.Need-put-bytes-requires
-put-bytes-requires c κs = room-as (part-is (c .before)) (c .before .before .before .before .before .before .before .pre .0)
+put-bytes-requires c κs =
+    let r = c .before .before .before .before .before .before .before .pre .0 in
+    room-as (part-is (c .before)) r
 
 returns : tie.Need-returns
 returns c = wrote-as (blank-text _ _ (c .enum-told .given .1)) (wrote-nothing _ _)
@@ -97,31 +127,38 @@ same-length : tie.Need-same-length
 same-length c = search needs
 
 returns-2 : tie.Need-returns-2
-returns-2 c = wrote-as (short-text _ _ _ _ (c .before .before .before .before .before .before .value .given .1) (c .before .before .before .short-shifted .ensures ∙ ap signedText (search needs))) (c .before .before .put-shifted .ensures)
+returns-2 c = wrote-as (short-is (c .before .before .before)) (c .before .before .put-shifted .ensures)
 
 same-length-2 : tie.Need-same-length-2
 same-length-2 c = search needs
 
 returns-3 : tie.Need-returns-3
-returns-3 c = wrote-as (long-text _ _ _ _ (c .before .before .before .before .before .before .value2 .given .1) (c .before .before .before .long-shifted .ensures ∙ ap signedText (search needs))) (c .before .before .put-shifted2 .ensures)
+returns-3 c = wrote-as (long-is (c .before .before .before)) (c .before .before .put-shifted2 .ensures)
 
 same-length-3 : tie.Need-same-length-3
 same-length-3 c = search needs
 
 returns-4 : tie.Need-returns-4
-returns-4 c = wrote-as (date-text _ _ _ (c .before .before .before .before .before .value3 .given .1)) (c .before .before .put-decimal .ensures)
+returns-4 c =
+    let e = c .before .before .before .before .before .value3 .given .1 in
+    wrote-as (date-text _ _ _ e) (c .before .before .put-decimal .ensures)
 
 same-length-4 : tie.Need-same-length-4
 same-length-4 c = search needs
 
 returns-5 : tie.Need-returns-5
-returns-5 c = wrote-as (number-text _ _ _ (c .before .before .before .before .before .value4 .given .1)) (c .before .before .put-number .ensures)
+returns-5 c =
+    let e = c .before .before .before .before .before .value4 .given .1 in
+    wrote-as (number-text _ _ _ e) (c .before .before .put-number .ensures)
 
 same-length-5 : tie.Need-same-length-5
 same-length-5 c = search needs
 
 returns-6 : tie.Need-returns-6
-returns-6 c = wrote-as (logical-text _ _ _ _ (c .before .before .before .before .before .before .value5 .given .1) (c .before .before .before .letter-of .ensures)) (c .before .before .put-byte .ensures)
+returns-6 c =
+    let e = c .before .before .before .before .before .before .value5 .given .1 in
+    let l = logical-text _ _ _ _ e (c .before .before .before .letter-of .ensures) in
+    wrote-as l (c .before .before .put-byte .ensures)
 
 same-length-6 : tie.Need-same-length-6
 same-length-6 c = search needs

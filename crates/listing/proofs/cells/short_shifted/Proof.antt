@@ -18,10 +18,14 @@ add-result : tie.Need-add-result
 add-result c = sum-fits w16 (c .args .z) 32768 (c .fits .z) refl (lit≤ tt)
 
 cast-result-3 : tie.Need-cast-result-3
-cast-result-3 c = rw (total w16 (c .args .z) 32768 (c .fits .z) refl (lit≤ tt)) (tt, total-fits w16 (c .args .z) 32768 (c .fits .z) refl (lit≤ tt))
+cast-result-3 c =
+    rw (total w16 (c .args .z) 32768 (c .fits .z) refl (lit≤ tt))
+    (tt, total-fits w16 (c .args .z) 32768 (c .fits .z) refl (lit≤ tt))
 
 returns : tie.Need-returns
-returns c = rw (total w16 (c .args .z) 32768 (c .fits .z) refl (lit≤ tt)) (shifted-is 32768 (c .args .z) (c .fits .z .sfits))
+returns c =
+    rw (total w16 (c .args .z) 32768 (c .fits .z) refl (lit≤ tt))
+    (shifted-is 32768 (c .args .z) (c .fits .z .sfits))
 
 pub short-shifted-spec : {M : Type 1} → statement M
 short-shifted-spec =

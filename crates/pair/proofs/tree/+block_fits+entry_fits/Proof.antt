@@ -1,5 +1,5 @@
--- `block_fits` and `entry_fits` meet their contracts, which call each other down the tree: the entries passed come to where the used
--- chain is, and the level falls at each descent. Assumes nothing.
+-- `block_fits` and `entry_fits` meet their contracts, which call each other down the tree: the entries passed come to
+-- where the used chain is, and the level falls at each descent. Assumes nothing.
 use Prim.Native.Nat.{ℕ, _+_, _-_, _≤_, _<_}
 use mathlib.Core.Path.{_≡_, sym, ap, subst, _∙_}
 use mathlib.Core.List.{List}
@@ -12,13 +12,16 @@ use borrow.Fn.Kinds.{In}
 use borrow.Fn.PlainCycle.{Measures, is, falls, and}
 use Rattle.words.specs.Order.{isSame, order}
 use Rattle.blocks.specs.Shape.{recordAt}
+use Rattle.index.specs.Header.{entryNumbers}
 use Rattle.index.specs.Entries.{entriesIn, entryKey, entryBlock}
 use Rattle.index.proofs.EntryLaws.{with-entries, entry-inside}
 use Rattle.pair.specs.Tree.{Entry, entryAt}
 use Rattle.pair.specs.Steps.{Descendable, blockFrom}
 use Rattle.pair.specs.declared.tree.Fit.the-variants.{Next}
 use Rattle.pair.specs.declared.tree.Shapes.{Shapes}
-use Rattle.pair.proofs.FollowLaws.{upTo, upTo-none, descend-on, block-empty, block-done, block-turn, block-refused, block-some, entry-read, key-tested, entry-leaf, entry-unfit, entry-other, entry-fits}
+use Rattle.pair.proofs.FollowLaws.{upTo, upTo-none, descend-on, block-empty, block-done, block-turn}
+use Rattle.pair.proofs.FollowLaws.{block-refused, block-some, entry-read, key-tested, entry-leaf, entry-unfit}
+use Rattle.pair.proofs.FollowLaws.{entry-other, entry-fits}
 use Rattle.pair.proofs.tree.block_fits.Reads as block-reads
 use Rattle.pair.proofs.tree.block_fits.Kinds as block-kinds
 use Rattle.pair.proofs.tree.+block_fits+entry_fits.Lts-block_fits as block-lts
@@ -43,7 +46,8 @@ abbrev μ-entry : Measures 2 entry-kinds.ps ℕ
 μ-entry κs a = a .1 .1 .1 .0 + a .1 .1 .1 .0 + 1
 
 abbrev Inv-loop : block-lts.InvT-loop
-Inv-loop table index shapes level block from count reached₀ i₀ reached i = (i ≤ count) × (upTo table index shapes (level - 1) block i from ≡ Next reached)
+Inv-loop table index shapes level block from count reached₀ i₀ reached i =
+    (i ≤ count) × (upTo table index shapes (level - 1) block i from ≡ Next reached)
 
 abbrev μ-loop : block-lts.MeasureT-loop
 μ-loop table index shapes level block from count reached₀ i₀ reached i = count - i
@@ -88,10 +92,16 @@ module _ (t : ℕ) where
   block-returns : block-lts.Need-returns block-calls block-at block-reads.Post Inv-loop μ-loop
   block-returns c =
       let v = c .before .before .before .before .args in
-      sym (block-empty (v .table .now) (v .index .now) (v .shapes) (v .level) (v .block) (v .from) (c .before .entries-in .result) (c .before .before .before .before .pre .1 .1) (c .before .entries-in .ensures) (c .if1 .taken))
+      sym (block-empty (v .table .now) (v .index .now) (v .shapes) (v .level) (v .block) (v .from)
+      (c .before .entries-in .result) (c .before .before .before .before .pre .1 .1) (c .before .entries-in .ensures)
+      (c .if1 .taken))
 
   loop-holds : block-lts.Need-loop-holds block-calls block-at block-reads.Post Inv-loop μ-loop
-  loop-holds c = let v = c .before .before .before .before .args in (search needs, upTo-none (v .table .now) (v .index .now) (v .shapes) (v .level - 1) (v .block) (v .from))
+  loop-holds c =
+      let v = c .before .before .before .before .args in (
+        search needs,
+        upTo-none (v .table .now) (v .index .now) (v .shapes) (v .level - 1) (v .block) (v .from),
+      )
 
   sub-entry-fits : block-lts.Need-sub-entry-fits block-calls block-at block-reads.Post Inv-loop μ-loop
   sub-entry-fits c = c .before .before .before .before .before .before .pre .1 .1
@@ -102,7 +112,11 @@ module _ (t : ℕ) where
       let l = c .before .loop in
       let p = c .before .before .before .before .before .before .pre in (
         omega (arith, p .0, p .1 .1),
-        (descend-on (v .table .now) (v .index .now) (v .shapes) (v .level - 1) (v .block) (l .i) (v .from) (l .reached) (p .1 .0) (l .inv .1), omega (arith, c .before .before .before .entries-in .ensures, c .loop-test .taken)),
+        (
+          descend-on (v .table .now) (v .index .now) (v .shapes) (v .level - 1) (v .block) (l .i) (v .from) (l .reached)
+              (p .1 .0) (l .inv .1),
+          omega (arith, c .before .before .before .entries-in .ensures, c .loop-test .taken),
+        ),
       )
 
   block-known-next : block-lts.Need-enum-known-next block-calls block-at block-reads.Post Inv-loop μ-loop
@@ -115,7 +129,12 @@ module _ (t : ℕ) where
   block-returns-2 c =
       let v = c .before .before .before .before .before .before .before .before .before .args in
       let l = c .before .before .before .before .loop in
-      sym (block-refused (v .table .now) (v .index .now) (v .shapes) (v .level) (v .block) (v .from) (c .before .before .before .before .before .before .entries-in .result) (c .before .before .before .before .before .before .before .before .before .pre .1 .1) (c .before .before .before .before .before .before .entries-in .ensures) (l .i) (l .reached) (c .before .before .before .before .before .if1 .left) (c .before .before .before .loop-test .taken) (l .inv .1) (sym (c .before .before .entry-fits .ensures) ∙ c .enum-told .given .1))
+      sym (block-refused (v .table .now) (v .index .now) (v .shapes) (v .level) (v .block) (v .from)
+      (c .before .before .before .before .before .before .entries-in .result)
+      (c .before .before .before .before .before .before .before .before .before .pre .1 .1)
+      (c .before .before .before .before .before .before .entries-in .ensures) (l .i) (l .reached)
+      (c .before .before .before .before .before .if1 .left) (c .before .before .before .loop-test .taken) (l .inv .1)
+      (sym (c .before .before .entry-fits .ensures) ∙ c .enum-told .given .1))
 
   add-i : block-lts.Need-add-i block-calls block-at block-reads.Post Inv-loop μ-loop
   add-i c = search needs
@@ -126,14 +145,24 @@ module _ (t : ℕ) where
   loop-again : block-lts.Need-loop-again block-calls block-at block-reads.Post Inv-loop μ-loop
   loop-again c =
       let v = c .before .before .before .before .before .before .before .before .before .before .args in
-      let l = c .before .before .before .before .before .loop in
-      (search needs, block-turn (v .table .now) (v .index .now) (v .shapes) (v .level) (v .block) (v .from) (c .before .before .before .before .before .before .before .entries-in .result) (c .before .before .before .before .before .before .before .before .before .before .pre .1 .1) (c .before .before .before .before .before .before .before .entries-in .ensures) (l .i) (l .reached) (c .before .next .given .0 .0) (l .inv .1) (sym (c .before .before .before .entry-fits .ensures) ∙ c .before .next .given .1))
+      let l = c .before .before .before .before .before .loop in (
+        search needs,
+        block-turn (v .table .now) (v .index .now) (v .shapes) (v .level) (v .block) (v .from)
+            (c .before .before .before .before .before .before .before .entries-in .result)
+            (c .before .before .before .before .before .before .before .before .before .before .pre .1 .1)
+            (c .before .before .before .before .before .before .before .entries-in .ensures) (l .i) (l .reached)
+            (c .before .next .given .0 .0) (l .inv .1) (sym (c .before .before .before .entry-fits .ensures)
+            ∙ c .before .next .given .1),
+      )
 
   block-returns-3 : block-lts.Need-returns-3 block-calls block-at block-reads.Post Inv-loop μ-loop
   block-returns-3 c =
       let v = c .before .before .before .before .before .before .args in
       let l = c .before .loop in
-      sym (block-done (v .table .now) (v .index .now) (v .shapes) (v .level) (v .block) (v .from) (c .before .before .before .entries-in .result) (c .before .before .before .before .before .before .pre .1 .1) (c .before .before .before .entries-in .ensures) (l .i) (l .reached) (c .before .before .if1 .left) (l .inv .0) (c .loop-test .left) (l .inv .1))
+      sym (block-done (v .table .now) (v .index .now) (v .shapes) (v .level) (v .block) (v .from)
+      (c .before .before .before .entries-in .result) (c .before .before .before .before .before .before .pre .1 .1)
+      (c .before .before .before .entries-in .ensures) (l .i) (l .reached) (c .before .before .if1 .left) (l .inv .0)
+      (c .loop-test .left) (l .inv .1))
 
   -- ---- an entry
 
@@ -143,7 +172,8 @@ module _ (t : ℕ) where
   record-at-requires : entry-lts.Need-record-at-requires entry-calls entry-at entry-reads.Post
   record-at-requires c κs =
       let v = c .before .before .before .args in
-      let w = with-entries (v .index .now) (v .shapes .index) (v .block) (omega (arith, c .before .before .before .pre .1 .1)) in
+      let w = with-entries (v .index .now) (v .shapes .index) (v .block)
+      (omega (arith, c .before .before .before .pre .1 .1)) in
       (w .low, w .high, search needs)
 
   -- where the entry stands
@@ -164,16 +194,26 @@ module _ (t : ℕ) where
     C = c .before .before .before .before .args .from
 
     abbrev E : Entry
-    E = entryAt X (S .index) (S .«key_length») (c .before .before .before .before .args .block) (c .before .before .before .before .args .i)
+    E =
+        entryAt X (S .index) (S .«key_length») (c .before .before .before .before .args .block)
+        (c .before .before .before .before .args .i)
 
     asked : Descendable T X S C
     asked = c .before .before .before .before .pre .1 .0
 
-    place : c .record-at .result ≡ recordAt (S .index) (c .before .before .before .before .args .block) (c .before .before .before .before .args .i)
+    place : c .record-at .result ≡ recordAt (S .index) (c .before .before .before .before .args .block)
+        (c .before .before .before .before .args .i)
     place = c .record-at .ensures
 
-    inside : c .record-at .result + S .«key_length» + 6 ≤ length X
-    inside = omega (arith, place, entry-inside X (S .index) (c .before .before .before .before .args .block) (S .«key_length») (c .before .before .before .before .args .i) (asked .entries) (c .before .before .before .before .pre .1 .1))
+    inside : c .record-at .result + S .«key_length» + entryNumbers ≤ length X
+    inside =
+        omega (
+          arith,
+          place,
+          entry-inside X (S .index) (c .before .before .before .before .args .block)
+              (S .«key_length») (c .before .before .before .before .args .i) (asked .entries)
+              (c .before .before .before .before .pre .1 .1),
+        )
 
   add-block-named : entry-lts.Need-add-block-named entry-calls entry-at entry-reads.Post
   add-block-named c = let i = inside c in search needs
@@ -185,7 +225,8 @@ module _ (t : ℕ) where
   cast-named c = search needs
 
   -- the block that it names
-  named : (c : entry-lts.After-block-named entry-calls entry-at entry-reads.Post) → c .block-named .result ≡ E (c .before) .block
+  named : (c : entry-lts.After-block-named entry-calls entry-at entry-reads.Post) →
+      c .block-named .result ≡ E (c .before) .block
   unfolding entryBlock
   named c = rw (place (c .before)) at (c .block-named .ensures)
 
@@ -197,11 +238,16 @@ module _ (t : ℕ) where
       let r = c .before .before .before in
       let v = r .before .before .before .before .args in
       c .leaf-fits .ensures
-      ∙ entry-read (T r) (X r) (S r) (v .block) (v .i) (C r) (r .record-at .result) (c .before .before .block-named .result) (place r) (named (c .before .before))
+      ∙ entry-read (T r) (X r) (S r) (v .block) (v .i) (C r) (r .record-at .result)
+      (c .before .before .block-named .result) (place r) (named (c .before .before))
       ∙ sym (entry-leaf (T r) (X r) (S r) (L r) (E r) (C r) (c .before .if1 .taken))
 
   block-fits-requires : entry-lts.Need-block-fits-requires entry-calls entry-at entry-reads.Post
-  block-fits-requires c κs = let r = c .before .before in (omega (arith, r .before .before .before .before .pre .0), (asked r, pos-of-ne-zero (c .if1 .left)))
+  block-fits-requires c κs =
+      let r = c .before .before in (
+        omega (arith, r .before .before .before .before .pre .0),
+        (asked r, pos-of-ne-zero (c .if1 .left)),
+      )
 
   entry-known-next : entry-lts.Need-enum-known-next entry-calls entry-at entry-reads.Post
   entry-known-next c = search needs
@@ -210,13 +256,17 @@ module _ (t : ℕ) where
   entry-told c = search needs
 
   -- what its block came to
-  came : (c : entry-lts.After-block-fits entry-calls entry-at entry-reads.Post) → let r = c .before .before .before in c .block-fits .result ≡ blockFrom (T r) (X r) (S r) (L r) (E r .block) (C r)
-  came c = let r = c .before .before .before in c .block-fits .ensures ∙ ap (λ (b : ℕ). blockFrom (T r) (X r) (S r) (L r) b (C r)) (named (c .before .before))
+  came : (c : entry-lts.After-block-fits entry-calls entry-at entry-reads.Post) → let r =
+      c .before .before .before in c .block-fits .result ≡ blockFrom (T r) (X r) (S r) (L r) (E r .block) (C r)
+  came c =
+      let r = c .before .before .before in c .block-fits .ensures
+      ∙ ap (λ (b : ℕ). blockFrom (T r) (X r) (S r) (L r) b (C r)) (named (c .before .before))
 
   entry-returns-2 : entry-lts.Need-returns-2 entry-calls entry-at entry-reads.Post
   entry-returns-2 c =
       let r = c .before .before .before .before .before in
-      sym (entry-unfit (T r) (X r) (S r) (L r) (E r) (C r) (pos-of-ne-zero (c .before .before .before .if1 .left)) (sym (came (c .before .before)) ∙ c .enum-told .given .1))
+      sym (entry-unfit (T r) (X r) (S r) (L r) (E r) (C r) (pos-of-ne-zero (c .before .before .before .if1 .left))
+      (sym (came (c .before .before)) ∙ c .enum-told .given .1))
 
   -- where its block fits
   module _ (c : entry-lts.After-known-told entry-calls entry-at entry-reads.Post) where
@@ -227,43 +277,56 @@ module _ (t : ℕ) where
     fitted = sym (came (c .before .before .before)) ∙ c .before .next .given .1
 
     some : 0 < entriesIn (X R) (S R .index) (c .before .before .before .before .before .block-named .result)
-    some = subst (λ (b : ℕ). 0 < entriesIn (X R) (S R .index) b) (sym (named (c .before .before .before .before .before))) (block-some (T R) (X R) (S R) (L R) (E R .block) (C R) (c .before .next .given .0 .0) (pos-of-ne-zero (c .before .before .before .before .if1 .left)) fitted)
+    some =
+        subst (λ (b : ℕ). 0 < entriesIn (X R) (S R .index) b) (sym (named (c .before .before .before .before .before)))
+        (block-some (T R) (X R) (S R) (L R) (E R .block) (C R) (c .before .next .given .0 .0)
+        (pos-of-ne-zero (c .before .before .before .before .if1 .left)) fitted)
 
   record-at-requires-2 : entry-lts.Need-record-at-requires-2 entry-calls entry-at entry-reads.Post
   record-at-requires-2 c κs =
       let r = R c in
-      let w = with-entries (X r) (S r .index) (c .before .before .before .before .before .block-named .result) (some c) in
+      let w = with-entries (X r) (S r .index) (c .before .before .before .before .before .block-named .result) (some c)
+      in
       (w .low, w .high, omega arith)
 
   compare-requires : entry-lts.Need-compare-requires entry-calls entry-at entry-reads.Post
   compare-requires c κs =
       let k = c .before in
       let r = R k in
-      let i = entry-inside (X r) (S r .index) (k .before .before .before .before .before .block-named .result) (S r .«key_length») 0 (asked r .entries) (some k) in
+      let i = entry-inside (X r) (S r .index) (k .before .before .before .before .before .block-named .result)
+      (S r .«key_length») 0 (asked r .entries) (some k) in
       (omega (arith, inside r), omega (arith, i, c .record-at2 .ensures))
 
   is-same-requires : entry-lts.Need-is-same-requires entry-calls entry-at entry-reads.Post
   is-same-requires c κs = search needs
 
   -- the test of its key is the definition's
-  tested : (c : entry-lts.After-is-same entry-calls entry-at entry-reads.Post) → let r = R (c .before .before .before) in isSame (order (E r .key) (entryKey (X r) (S r .index) (S r .«key_length») (E r .block) 0)) ≡ c .is-same .result
+  tested : (c : entry-lts.After-is-same entry-calls entry-at entry-reads.Post) → let r =
+      R (c .before .before .before) in isSame (order (E r .key)
+      (entryKey (X r) (S r .index) (S r .«key_length») (E r .block) 0)) ≡ c .is-same .result
   tested c =
       let k = c .before .before .before in
       let r = R k in
       let v = r .before .before .before .before .args in
-      key-tested (T r) (X r) (S r) (v .block) (v .i) (r .record-at .result) (k .before .before .before .before .before .block-named .result) (c .before .before .record-at2 .result) (c .before .compare .result) (c .is-same .result) (place r) (named (k .before .before .before .before .before)) (c .before .before .record-at2 .ensures) (c .before .compare .ensures) (c .is-same .ensures)
+      key-tested (T r) (X r) (S r) (v .block) (v .i) (r .record-at .result)
+      (k .before .before .before .before .before .block-named .result) (c .before .before .record-at2 .result)
+      (c .before .compare .result) (c .is-same .result) (place r) (named (k .before .before .before .before .before))
+      (c .before .before .record-at2 .ensures) (c .before .compare .ensures) (c .is-same .ensures)
 
   entry-returns-3 : entry-lts.Need-returns-3 entry-calls entry-at entry-reads.Post
   entry-returns-3 c =
       let k = c .before .before .before .before in
       let r = R k in
-      sym (entry-other (T r) (X r) (S r) (L r) (E r) (C r) (pos-of-ne-zero (k .before .before .before .before .if1 .left)) (tested (c .before) ∙ not-true _ (c .if2 .taken)))
+      sym (entry-other (T r) (X r) (S r) (L r) (E r) (C r)
+      (pos-of-ne-zero (k .before .before .before .before .if1 .left)) (tested (c .before) ∙ not-true _ (c .if2 .taken)))
 
   entry-returns-4 : entry-lts.Need-returns-4 entry-calls entry-at entry-reads.Post
   entry-returns-4 c =
       let k = c .before .before .before .before in
       let r = R k in
-      sym (entry-fits (T r) (X r) (S r) (L r) (E r) (C r) (pos-of-ne-zero (k .before .before .before .before .if1 .left)) (k .before .next .given .0 .0) (fitted k) (tested (c .before) ∙ not-false _ (c .if2 .left)))
+      sym (entry-fits (T r) (X r) (S r) (L r) (E r) (C r)
+      (pos-of-ne-zero (k .before .before .before .before .if1 .left)) (k .before .next .given .0 .0) (fitted k)
+      (tested (c .before) ∙ not-false _ (c .if2 .left)))
 
 pub +block-fits+entry-fits-spec : {M : Type 1} → statement M
 +block-fits+entry-fits-spec = close μ-block μ-entry (λ t. block-lts.spec (block-calls t)

@@ -1,17 +1,17 @@
--- `first_holding` meets its contract: from the present block on the first block that holds records is that of the whole chain, of which each turn leaves fewer blocks. Assumes nothing.
-use mathlib.Core.Path.{_≡_, refl, sym, ap, _∙_}
+-- `first_holding` meets its contract: from the present block on the first block that holds records is that of the
+-- whole chain, of which each turn leaves fewer blocks. Assumes nothing.
+use mathlib.Core.Path.{_≡_, refl, sym, _∙_}
 use mathlib.Core.List.{List}
-use Prim.Native.Nat.{ℕ, suc}
+use Prim.Native.Nat.{ℕ}
 use native.Mathlib.Omega.{arith}
 use lib.ListN.{length}
 use Rattle.blocks.specs.Counts.{countIn}
 use Rattle.blocks.specs.declared.Shape.{Shape}
 use Rattle.blocks.specs.declared.count.Count.the-variants.{Records, Bad}
 use Rattle.blocks.proofs.ShapeLaws.{head-inside}
-use Rattle.chain.specs.Links.{nextOf}
-use Rattle.table.specs.Steps.{GoodChain}
-use Rattle.table.proofs.GoodChainLaws.{Block, good-on}
-use Rattle.scan.proofs.ChainLaws.{blocksFrom}
+use Rattle.chain.specs.Links.{nextOf, blocksFrom}
+use Rattle.chain.specs.Rules.{GoodFrom}
+use Rattle.chain.proofs.GoodChainLaws.{Block, from-block, from-fewer}
 use Rattle.pair.specs.Steps.{Followed, holdingFrom}
 use Rattle.pair.proofs.HoldingLaws.{holding-none, holding-here, holding-later}
 use borrow.Author.Needs.{needs}
@@ -20,7 +20,7 @@ use Rattle.pair.proofs.tree.first_holding.Tie as tie
 
 abbrev Inv-loop : tie.InvT-loop
 Inv-loop table shape from block₀ block =
-    GoodChain table shape block (blocksFrom table shape block) × (holdingFrom table shape from ≡ holdingFrom table shape block)
+    GoodFrom table shape block × (holdingFrom table shape from ≡ holdingFrom table shape block)
 
 abbrev μ-loop : tie.MeasureT-loop
 μ-loop table shape from block₀ block = length (blocksFrom table shape block)
@@ -43,7 +43,7 @@ module _ (c : tie.In-loop Inv-loop μ-loop) where
   asked = c .before .before .before .pre
 
   here : Block T G B (blocksFrom T G (nextOf T G B))
-  here = good-on T G B (c .loop-test .taken) (c .before .loop .inv .0) .1
+  here = from-block T G B (c .loop-test .taken) (c .before .loop .inv .0)
 
 count-in-requires : tie.Need-count-in-requires Inv-loop μ-loop
 count-in-requires c κs = (here c .low, here c .high, asked c .sound)
@@ -55,7 +55,6 @@ enum-told : tie.Need-enum-told Inv-loop μ-loop
 enum-told c = search needs
 
 -- no count of the chain is bad
-
 returns : tie.Need-returns Inv-loop μ-loop
 returns c =
     let d = c .before .before .before in
@@ -77,7 +76,8 @@ module _ (c : tie.After-known-told Inv-loop μ-loop) where
 returns-2 : tie.Need-returns-2 Inv-loop μ-loop
 returns-2 c =
     let d = c .before .before .before .before .before in
-    sym (d .before .loop .inv .1 ∙ holding-here (T d) (G d) (B d) (d .loop-test .taken) (d .before .loop .inv .0) (N (c .before)) (counted (c .before)) (c .if1 .taken))
+    sym (d .before .loop .inv .1 ∙ holding-here (T d) (G d) (B d) (d .loop-test .taken) (d .before .loop .inv .0)
+    (N (c .before)) (counted (c .before)) (c .if1 .taken))
 
 next-of-requires : tie.Need-next-of-requires Inv-loop μ-loop
 next-of-requires c κs =
@@ -87,14 +87,17 @@ next-of-requires c κs =
 loop-less : tie.Need-loop-less Inv-loop μ-loop
 loop-less c =
     let d = c .before .before .before .before .before .before in
-    let e : length (blocksFrom (T d) (G d) (B d)) ≡ suc (length (blocksFrom (T d) (G d) (nextOf (T d) (G d) (B d)))) = ap length (good-on (T d) (G d) (B d) (d .loop-test .taken) (d .before .loop .inv .0) .0) in
-    rw (c .next-of .ensures) (omega arith)
+    rw (c .next-of .ensures) (from-fewer (T d) (G d) (B d) (d .loop-test .taken) (d .before .loop .inv .0))
 
 loop-again : tie.Need-loop-again Inv-loop μ-loop
 loop-again c =
     let d = c .before .before .before .before .before .before in
-    rw (c .next-of .ensures)
-    (here d .onward, d .before .loop .inv .1 ∙ holding-later (T d) (G d) (B d) (d .loop-test .taken) (d .before .loop .inv .0) (N (c .before .before)) (counted (c .before .before)) (c .before .if1 .left))
+    rw (c .next-of .ensures) (
+      here d .onward,
+      d .before .loop .inv .1
+          ∙ holding-later (T d) (G d) (B d) (d .loop-test .taken) (d .before .loop .inv .0) (N (c .before .before))
+          (counted (c .before .before)) (c .before .if1 .left),
+    )
 
 returns-3 : tie.Need-returns-3 Inv-loop μ-loop
 returns-3 c =

@@ -1,4 +1,5 @@
--- `leaf_fits` meets its contract: the entry is the one expected where it names the next block that holds records, with its first key. Assumes nothing.
+-- `leaf_fits` meets its contract: the entry is the one expected where it names the next block that holds records,
+-- with its first key. Assumes nothing.
 use mathlib.Core.Path.{_≡_, sym, _∙_}
 use mathlib.Core.List.{List}
 use Prim.Native.Nat.{ℕ}
@@ -34,7 +35,11 @@ module _ (r : tie.After-first-holding) where
   C = r .before .before .before .args .from
 
   abbrev E : Entry
-  E = record { key = range (r .before .before .before .args .index .now) (r .before .before .before .args .at) N; block = r .before .before .before .args .named }
+  E =
+      record {
+        key = range (r .before .before .before .args .index .now) (r .before .before .before .args .at) N;
+        block = r .before .before .before .args .named;
+      }
 
   holds : r .first-holding .result ≡ holdingFrom T G C
   holds = r .first-holding .ensures
@@ -42,18 +47,22 @@ module _ (r : tie.After-first-holding) where
 returns : tie.Need-returns
 returns c =
     let r = c .before in
-    sym (follow-none (T r) (G r) (N r) (E r) (C r) (unexpected-end (T r) (G r) (N r) (E r) (C r) (sym (holds r) ∙ c .if1 .taken)))
+    sym (follow-none (T r) (G r) (N r) (E r) (C r)
+    (unexpected-end (T r) (G r) (N r) (E r) (C r) (sym (holds r) ∙ c .if1 .taken)))
 
 some : (c : tie.Else1) → let r = c .before in holdingFrom (T r) (G r) (C r) ≡ 0 → ⊥
 some c z = c .if1 .left (holds (c .before) ∙ z)
 
 here : (c : tie.Else1) → let r = c .before in Holding (T r) (G r) (holdingFrom (T r) (G r) (C r))
-here c = let r = c .before in keys-next (T r) (G r) (N r) (C r) (r .before .before .before .pre .0 .followed .chain) (some c) .0
+here c =
+    let r = c .before in keys-next (T r) (G r) (N r) (C r) (r .before .before .before .pre .0 .followed .chain)
+    (some c) .0
 
 returns-2 : tie.Need-returns-2
 returns-2 c =
     let r = c .before .before in
-    sym (follow-none (T r) (G r) (N r) (E r) (C r) (unexpected-block (T r) (G r) (N r) (E r) (C r) (some (c .before)) (λ z. c .if2 .taken (z ∙ sym (holds r)))))
+    sym (follow-none (T r) (G r) (N r) (E r) (C r)
+    (unexpected-block (T r) (G r) (N r) (E r) (C r) (some (c .before)) (λ z. c .if2 .taken (z ∙ sym (holds r)))))
 
 record-at-requires : tie.Need-record-at-requires
 record-at-requires c κs =
@@ -68,17 +77,22 @@ compare-requires c κs =
     let r = c .before .before .before .before in
     let s = r .before .before .before .pre in
     let w = rw (← (holds r)) at (here (c .before .before .before)) in
-    let i = record-in-file (T r) (G r) (s .0 .followed .sound) (r .first-holding .result) _ (w .counted) (w .low) (w .high) 0 (omega arith) in
+    let i = record-in-file (T r) (G r) (s .0 .followed .sound) (r .first-holding .result) _ (w .counted) (w .low)
+    (w .high) 0 (omega arith) in
     (s .1, omega (arith, c .before .record-at .ensures, s .0 .short, i))
 
 is-same-requires : tie.Need-is-same-requires
 is-same-requires c κs = search needs
 
 -- the test of the key is the definition's
-tested : (c : tie.After-is-same) → let r = c .before .before .before .before .before .before in isExpected (T r) (G r) (N r) (E r) (C r) ≡ c .is-same .result
+tested : (c : tie.After-is-same) → let r =
+    c .before .before .before .before .before .before in isExpected (T r) (G r) (N r) (E r) (C r) ≡ c .is-same .result
 tested c =
     let r = c .before .before .before .before .before .before in
-    expected-tested (T r) (G r) (N r) (E r) (C r) (some (c .before .before .before .before .before)) (r .first-holding .result) (c .before .before .before .record-at .result) (c .before .compare .result) (c .is-same .result) (holds r) (c .before .before .before .before .if2 .left) (c .before .before .before .record-at .ensures) (c .before .compare .ensures) (c .is-same .ensures)
+    expected-tested (T r) (G r) (N r) (E r) (C r) (some (c .before .before .before .before .before))
+    (r .first-holding .result) (c .before .before .before .record-at .result) (c .before .compare .result)
+    (c .is-same .result) (holds r) (c .before .before .before .before .if2 .left)
+    (c .before .before .before .record-at .ensures) (c .before .compare .ensures) (c .is-same .ensures)
 
 returns-3 : tie.Need-returns-3
 returns-3 c =
@@ -88,13 +102,18 @@ returns-3 c =
 next-of-requires : tie.Need-next-of-requires
 next-of-requires c κs =
     let r = c .before .before .before .before .before .before .before in
-    let w = rw (← (holds r)) at (here (c .before .before .before .before .before .before)) in
-    (w .low, w .high, head-inside (T r) (G r) (r .before .before .before .pre .0 .followed .sound) (r .first-holding .result) (w .low) (w .high))
+    let w = rw (← (holds r)) at (here (c .before .before .before .before .before .before)) in (
+      w .low,
+      w .high,
+      head-inside (T r) (G r) (r .before .before .before .pre .0 .followed .sound)
+          (r .first-holding .result) (w .low) (w .high),
+    )
 
 returns-4 : tie.Need-returns-4
 returns-4 c =
     let r = c .before .before .before .before .before .before .before .before in
-    rw (c .next-of .ensures, holds r) (sym (follow-one (T r) (G r) (N r) (E r) (C r) (tested (c .before .before) ∙ not-false _ (c .before .if3 .left))))
+    rw (c .next-of .ensures, holds r) (sym (follow-one (T r) (G r) (N r) (E r) (C r)
+    (tested (c .before .before) ∙ not-false _ (c .before .if3 .left))))
 
 pub leaf-fits-spec : {M : Type 1} → statement M
 leaf-fits-spec =

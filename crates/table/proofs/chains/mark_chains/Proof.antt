@@ -72,7 +72,8 @@ same-length c = search needs
 returns : tie.Need-returns
 returns c =
     let d = c .before .before .before .before .before .before .before in
-    chains-wrong (T d) (H d) _ refl (used-wrong (T d) (H d) (M₀ d) (no-marks d) (R d) (M₁ d) (followed d) (not-true (right d) (c .if1 .taken))) _
+    chains-wrong (T d) (H d) _ refl (used-wrong (T d) (H d) (M₀ d) (no-marks d) (R d) (M₁ d) (followed d)
+    (not-true (right d) (c .if1 .taken))) _
 
 cast-follow-free : tie.Need-cast-follow-free
 cast-follow-free c = search needs
@@ -107,7 +108,8 @@ returns-2 : tie.Need-returns-2
 returns-2 c =
     let e = c .before .before .before in
     let d = D e in
-    chains-wrong (T d) (H d) _ refl (free-broken (T d) (H d) (M₀ d) (no-marks d) (R d) (M₁ d) (followed d) (is-right e) (e .follow-free .result) (M₂ e) (freed e) (not-true _ (c .if2 .taken))) _
+    chains-wrong (T d) (H d) _ refl (free-broken (T d) (H d) (M₀ d) (no-marks d) (R d) (M₁ d) (followed d) (is-right e)
+    (e .follow-free .result) (M₂ e) (freed e) (not-true _ (c .if2 .taken))) _
 
 all-marked-requires : tie.Need-all-marked-requires
 all-marked-requires c κs = search needs
@@ -119,7 +121,8 @@ returns-3 : tie.Need-returns-3
 returns-3 c =
     let e = c .before .before .before .before .before in
     let d = D e in
-    rw (c .all-marked .ensures) (chains-marked (T d) (H d) (M₀ d) (no-marks d) (R d) (M₁ d) (followed d) (is-right e) (e .follow-free .result) (M₂ e) (freed e) (not-false _ (c .before .before .if2 .left)))
+    rw (c .all-marked .ensures) (chains-marked (T d) (H d) (M₀ d) (no-marks d) (R d) (M₁ d) (followed d) (is-right e)
+    (e .follow-free .result) (M₂ e) (freed e) (not-false _ (c .before .before .if2 .left)))
 
 pub mark-chains-spec : {M : Type 1} → statement M
 mark-chains-spec =

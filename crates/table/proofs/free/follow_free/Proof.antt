@@ -1,17 +1,19 @@
--- `follow_free` meets its contract: the chain that is left decides what the whole comes to (FollowLaws). Assumes nothing.
+-- `follow_free` meets its contract: the chain that is left decides what the whole comes to (FollowLaws). Assumes
+-- nothing.
 use mathlib.Core.Path.{_≡_, refl, sym, _∙_}
 use mathlib.Core.Bool.{true, false, false≢true}
 use mathlib.Core.List.{List}
 use Prim.Native.Nat.{ℕ, _≤_}
 use native.Mathlib.Omega.{arith}
-use lib.ListN.{length}
 use borrow.Author.Needs.{needs}
 use borrow.Author.Tests.{not-true, not-false}
 use Rattle.blocks.proofs.ShapeLaws.{head-inside}
-use Rattle.chain.specs.Chain.{chainFrom, times}
-use Rattle.chain.specs.Links.{nextOf}
-use Rattle.chain.specs.Steps.{isUnmarked, anyTwo}
-use Rattle.chain.proofs.FollowLaws.{Unmarked, unmarked-gives, fewer, Going, begin, step, broken, whole-judged, whole-stored}
+use Rattle.chain.specs.Chain.{times}
+use Rattle.chain.specs.Links.{nextOf, blocksFrom}
+use Rattle.chain.specs.Marks.{isUnmarked}
+use Rattle.chain.specs.Following.{anyTwo}
+use Rattle.chain.proofs.FollowLaws.{Unmarked, unmarked-gives, fewer, Going, begin, step, broken, whole-judged}
+use Rattle.chain.proofs.FollowLaws.{whole-stored}
 use Rattle.table.proofs.free.follow_free.Statement.{statement}
 use Rattle.table.proofs.free.follow_free.Tie as tie
 
@@ -21,13 +23,18 @@ keep s b = s
 
 abbrev Inv-loop : tie.InvT-loop
 Inv-loop table shape first marks₀ block₀ marks block =
-    (before : ℕ) × Going (nextOf table shape) anyTwo 2 keep 0 (chainFrom (nextOf table shape) (length marks₀) first) marks₀ marks 0 before block
+    (before : ℕ) × Going (nextOf table shape) anyTwo 2 keep 0 (blocksFrom table shape first) marks₀ marks 0 before block
 
 abbrev μ-loop : tie.MeasureT-loop
 μ-loop table shape first marks₀ block₀ marks block = times 0 marks
 
 loop-holds : tie.Need-loop-holds Inv-loop μ-loop
-loop-holds c = let v = c .before .before .args in (0, begin (nextOf (v .table .now) (v .shape)) anyTwo 2 keep 0 (v .first) (v .marks .now))
+loop-holds c =
+    let v = c .before .before .args in (
+      0,
+      begin (nextOf (v .table .now) (v .shape)) anyTwo 2 keep 0 (v .shape .blocks)
+          (v .first) (v .marks .now) (c .before .before .pre .1),
+    )
 
 is-unmarked-requires : tie.Need-is-unmarked-requires Inv-loop μ-loop
 is-unmarked-requires c κs = search needs
@@ -40,9 +47,12 @@ returns c =
     let v = c .before .before .before .before .before .before .before .args in
     let l = c .before .before .before .before .loop in
     let next = nextOf (v .table .now) (v .shape) in
-    let has-mark : isUnmarked (l .marks) (l .block) ≡ false = sym (c .before .is-unmarked .ensures) ∙ not-true _ (c .if1 .taken) in
+    let has-mark : isUnmarked (l .marks) (l .block) ≡ false = sym (c .before .is-unmarked .ensures)
+    ∙ not-true _ (c .if1 .taken) in
     record {
-      judged = broken next anyTwo 2 keep 0 (chainFrom next (length (v .marks .now)) (v .first)) (v .marks .now) (l .marks) 0 (l .inv .0) (l .block) (c .before .before .before .loop-test .taken) (rw has-mark) (l .inv .1);
+      judged =
+          broken next anyTwo 2 keep 0 (blocksFrom (v .table .now) (v .shape) (v .first)) (v .marks .now) (l .marks) 0
+          (l .inv .0) (l .block) (c .before .before .before .loop-test .taken) (rw has-mark) (l .inv .1);
       stored = λ e. absurd (false≢true e);
     }
 
@@ -70,7 +80,12 @@ next-of-requires : tie.Need-next-of-requires Inv-loop μ-loop
 next-of-requires c κs =
     let v = c .before .before .before .before .before .before .before .args in
     let p = c .before .before .before .before .before .before .before .pre in
-    let high : B c ≤ v .shape .blocks = omega (arith, here c, p .1, c .before .before .before .before .loop .inv .1 .same) in
+    let high : B c ≤ v .shape .blocks = omega (
+      arith,
+      here c,
+      p .1,
+      c .before .before .before .before .loop .inv .1 .same,
+    ) in
     (here c .low, high, head-inside (v .table .now) (v .shape) (p .0) (B c) (here c .low) high)
 
 loop-less : tie.Need-loop-less Inv-loop μ-loop
@@ -84,7 +99,9 @@ loop-again c =
     let next = nextOf (v .table .now) (v .shape) in (
       l .block,
       rw (c .next-of .ensures)
-          (step next anyTwo 2 keep 0 (chainFrom next (length (v .marks .now)) (v .first)) (v .marks .now) (l .marks) 0 (l .inv .0) (l .block) (d .before .before .before .loop-test .taken) (omega arith) (is-unmarked d) refl (l .inv .1)),
+          (step next anyTwo 2 keep 0 (blocksFrom (v .table .now) (v .shape) (v .first)) (v .marks .now) (l .marks) 0
+          (l .inv .0) (l .block) (d .before .before .before .loop-test .taken) (omega arith) (is-unmarked d) refl
+          (l .inv .1)),
     )
 
 same-length-2 : tie.Need-same-length-2 Inv-loop μ-loop
@@ -95,10 +112,14 @@ returns-2 c =
     let v = c .before .before .before .before .args in
     let l = c .before .loop in
     let next = nextOf (v .table .now) (v .shape) in
-    let whole = chainFrom next (length (v .marks .now)) (v .first) in
+    let whole = blocksFrom (v .table .now) (v .shape) (v .first) in
     record {
-      judged = whole-judged next anyTwo 2 keep 0 whole (v .marks .now) (l .marks) 0 (l .inv .0) (l .block) (c .loop-test .left) (l .inv .1);
-      stored = λ _. whole-stored next anyTwo 2 keep 0 whole (v .marks .now) (l .marks) 0 (l .inv .0) (l .block) (c .loop-test .left) (l .inv .1);
+      judged =
+          whole-judged next anyTwo 2 keep 0 whole (v .marks .now) (l .marks) 0 (l .inv .0) (l .block)
+          (c .loop-test .left) (l .inv .1);
+      stored =
+          λ _. whole-stored next anyTwo 2 keep 0 whole (v .marks .now) (l .marks) 0 (l .inv .0) (l .block)
+          (c .loop-test .left) (l .inv .1);
     }
 
 pub follow-free-spec : {M : Type 1} → statement M

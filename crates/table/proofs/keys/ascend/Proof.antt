@@ -1,4 +1,5 @@
--- `ascend` meets its contract: the keys from the present place on, after the last one, are what the whole comes to. Assumes nothing.
+-- `ascend` meets its contract: the keys from the present place on, after the last one, are what the whole comes to.
+-- Assumes nothing.
 use borrow.Author.Needs.{needs}
 use borrow.Author.Tests.{not-true, not-false}
 use native.Mathlib.Omega.{arith}
@@ -15,7 +16,8 @@ use Rattle.table.proofs.keys.ascend.Tie as tie
 
 abbrev Inv-loop : tie.InvT-loop
 Inv-loop table shape key before block from count last₀ place₀ last place =
-    (place ≤ count) × (last + key ≤ length table) × (keysAfter table shape key block from (count - from) (Last before) ≡ keysAfter table shape key block place (count - place) (Last last))
+    (place ≤ count) × (last + key ≤ length table) × (keysAfter table shape key block from (count - from)
+    (Last before) ≡ keysAfter table shape key block place (count - place) (Last last))
 
 abbrev μ-loop : tie.MeasureT-loop
 μ-loop table shape key before block from count last₀ place₀ last place = count - place
@@ -27,7 +29,8 @@ record-at-requires : tie.Need-record-at-requires Inv-loop μ-loop
 record-at-requires c κs = search needs
 
 -- the key at the present place is inside the table
-inside : (c : tie.After-record-at Inv-loop μ-loop) → let s = c .before .before .before .before in c .record-at .result + s .args .key ≤ length (s .args .table .now)
+inside : (c : tie.After-record-at Inv-loop μ-loop) → let s =
+    c .before .before .before .before in c .record-at .result + s .args .key ≤ length (s .args .table .now)
 inside c =
     let l = c .before .before .loop in
     let s = c .before .before .before .before in
@@ -44,20 +47,23 @@ is-less-requires c κs = search needs
 tested : (c : tie.After-is-less Inv-loop μ-loop) →
     let l = c .before .before .before .before .loop in
     let v = c .before .before .before .before .before .before .args in
-    isLess (order (range (v .table .now) (l .last) (v .key)) (range (v .table .now) (recordAt (v .shape) (v .block) (l .place)) (v .key))) ≡ c .is-less .result
+    isLess (order (range (v .table .now) (l .last) (v .key))
+    (range (v .table .now) (recordAt (v .shape) (v .block) (l .place)) (v .key))) ≡ c .is-less .result
 tested c =
     let l = c .before .before .before .before .loop in
     let v = c .before .before .before .before .before .before .args in
     sym (c .is-less .ensures
     ∙ ap isLess (c .before .compare .ensures)
-    ∙ ap (λ (a : ℕ). isLess (order (range (v .table .now) (l .last) (v .key)) (range (v .table .now) a (v .key)))) (c .before .before .record-at .ensures))
+    ∙ ap (λ (a : ℕ). isLess (order (range (v .table .now) (l .last) (v .key)) (range (v .table .now) a (v .key))))
+    (c .before .before .record-at .ensures))
 
 returns : tie.Need-returns Inv-loop μ-loop
 returns c =
     let d = c .before .before .before .before in
     let l = d .before .loop in
     let v = d .before .before .before .args in
-    sym (l .inv .2 ∙ keys-broken (v .table .now) (v .shape) (v .key) (v .block) (l .place) (v .count) (l .last) (d .loop-test .taken) (tested (c .before) ∙ not-true _ (c .if1 .taken)))
+    sym (l .inv .2 ∙ keys-broken (v .table .now) (v .shape) (v .key) (v .block) (l .place) (v .count) (l .last)
+    (d .loop-test .taken) (tested (c .before) ∙ not-true _ (c .if1 .taken)))
 
 add-place : tie.Need-add-place Inv-loop μ-loop
 add-place c = search needs
@@ -69,14 +75,20 @@ loop-again : tie.Need-loop-again Inv-loop μ-loop
 loop-again c =
     let a = c .before .before .before in
     let l = a .before .before .loop in
-    let v = a .before .before .before .before .args in
-    (search needs, inside a, rw (a .record-at .ensures) (l .inv .2 ∙ keys-less (v .table .now) (v .shape) (v .key) (v .block) (l .place) (v .count) (l .last) (a .before .loop-test .taken) (tested (c .before) ∙ not-false _ (c .if1 .left))))
+    let v = a .before .before .before .before .args in (
+      search needs,
+      inside a,
+      rw (a .record-at .ensures)
+          (l .inv .2 ∙ keys-less (v .table .now) (v .shape) (v .key) (v .block) (l .place) (v .count) (l .last)
+          (a .before .loop-test .taken) (tested (c .before) ∙ not-false _ (c .if1 .left))),
+    )
 
 returns-2 : tie.Need-returns-2 Inv-loop μ-loop
 returns-2 c =
     let l = c .before .loop in
     let v = c .before .before .before .args in
-    sym (l .inv .2 ∙ keys-end (v .table .now) (v .shape) (v .key) (v .block) (l .place) (v .count) (Last (l .last)) (c .loop-test .left))
+    sym (l .inv .2 ∙ keys-end (v .table .now) (v .shape) (v .key) (v .block) (l .place) (v .count) (Last (l .last))
+    (c .loop-test .left))
 
 pub ascend-spec : {M : Type 1} → statement M
 ascend-spec =

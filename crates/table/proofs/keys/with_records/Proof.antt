@@ -1,5 +1,5 @@
--- `with_records` meets its contract: key length 0 and no records change nothing, else the keys of the block follow those passed.
--- Assumes nothing.
+-- `with_records` meets its contract: key length 0 and no records change nothing, else the keys of the block follow
+-- those passed. Assumes nothing.
 use borrow.Author.Needs.{needs}
 use native.Mathlib.Omega.{arith}
 use mathlib.Core.Path.{sym, ap, _∙_}
@@ -29,8 +29,11 @@ record-at-requires c κs = search needs
 ascend-requires : tie.Need-ascend-requires
 ascend-requires c κs =
     let d = c .before .before .before in
-    let r = d .before .before .before .pre .0 in
-    (r, omega (arith, c .record-at .ensures, r .short, r .inside 0 (omega (arith, d .if2 .left))), omega (arith, d .if2 .left))
+    let r = d .before .before .before .pre .0 in (
+      r,
+      omega (arith, c .record-at .ensures, r .short, r .inside 0 (omega (arith, d .if2 .left))),
+      omega (arith, d .if2 .left),
+    )
 
 enum-known-keys : tie.Need-enum-known-keys
 enum-known-keys c = search needs
@@ -49,8 +52,11 @@ returns-3 c =
     let d = c .before .before .before .before in
     let v = d .before .before .before .args in
     c .ascend .ensures
-    ∙ ap (λ (a : ℕ). keysAfter (v .table .now) (v .shape) (v .key) (v .block) 1 (v .count - 1) (Last a)) (c .before .record-at .ensures)
-    ∙ sym (ap (runAfter (v .table .now) (v .shape) (v .key) (v .block) (v .count)) (c .before .before .enum-told .given .1) ∙ run-first (v .table .now) (v .shape) (v .key) (v .block) (d .before .if1 .left) (v .count) (d .if2 .left))
+    ∙ ap (λ (a : ℕ). keysAfter (v .table .now) (v .shape) (v .key) (v .block) 1 (v .count - 1) (Last a))
+    (c .before .record-at .ensures)
+    ∙ sym (ap (runAfter (v .table .now) (v .shape) (v .key) (v .block) (v .count))
+    (c .before .before .enum-told .given .1)
+    ∙ run-first (v .table .now) (v .shape) (v .key) (v .block) (d .before .if1 .left) (v .count) (d .if2 .left))
 
 returns-4 : tie.Need-returns-4
 returns-4 c =
@@ -58,13 +64,15 @@ returns-4 c =
     let d = c .before .before .before .before in
     let v = d .before .before .before .args in
     c .ascend2 .ensures
-    ∙ sym (ap (runAfter (v .table .now) (v .shape) (v .key) (v .block) (v .count)) (k .1) ∙ run-last (v .table .now) (v .shape) (v .key) (v .block) (d .before .if1 .left) (v .count) (k .0 .0))
+    ∙ sym (ap (runAfter (v .table .now) (v .shape) (v .key) (v .block) (v .count)) (k .1)
+    ∙ run-last (v .table .now) (v .shape) (v .key) (v .block) (d .before .if1 .left) (v .count) (k .0 .0))
 
 returns-5 : tie.Need-returns-5
 returns-5 c =
     let d = c .before .before in
     let v = d .before .before .before .args in
-    sym (ap (runAfter (v .table .now) (v .shape) (v .key) (v .block) (v .count)) (c .enum-told2 .given .1) ∙ run-unordered (v .table .now) (v .shape) (v .key) (v .block) (d .before .if1 .left) (v .count))
+    sym (ap (runAfter (v .table .now) (v .shape) (v .key) (v .block) (v .count)) (c .enum-told2 .given .1)
+    ∙ run-unordered (v .table .now) (v .shape) (v .key) (v .block) (d .before .if1 .left) (v .count))
 
 pub with-records-spec : {M : Type 1} → statement M
 with-records-spec =

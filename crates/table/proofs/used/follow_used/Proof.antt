@@ -8,16 +8,18 @@ use borrow.Author.Needs.{needs}
 use borrow.Author.Tests.{not-true, not-false}
 use Rattle.blocks.specs.declared.Shape.{Shape}
 use Rattle.chain.specs.Chain.{times}
-use Rattle.chain.specs.Steps.{isUnmarked}
+use Rattle.chain.specs.Marks.{isUnmarked}
 use Rattle.chain.proofs.FollowLaws.{unmarked-gives, fewer}
 use Rattle.table.specs.Steps.{Followable}
 use Rattle.table.specs.declared.tally.Tally.{Tally}
-use Rattle.table.proofs.UsedLaws.{Following, follow-begins, block-here, head-here, room-here, follow-on, follow-marked, follow-unnamed, follow-ends}
+use Rattle.table.proofs.UsedLaws.{Following, follow-begins, block-here, head-here, room-here, follow-on}
+use Rattle.table.proofs.UsedLaws.{follow-marked, follow-unnamed, follow-ends}
 use Rattle.table.proofs.used.follow_used.Statement.{statement}
 use Rattle.table.proofs.used.follow_used.Tie as tie
 
 abbrev Inv-loop : tie.InvT-loop
-Inv-loop table shape key first marks₀ tally₀ before₀ block₀ marks tally before block = Following table shape key first marks₀ marks tally before block
+Inv-loop table shape key first marks₀ tally₀ before₀ block₀ marks tally before block =
+    Following table shape key first marks₀ marks tally before block
 
 abbrev μ-loop : tie.MeasureT-loop
 μ-loop table shape key first marks₀ tally₀ before₀ block₀ marks tally before block = times 0 marks
@@ -28,7 +30,8 @@ start-requires c κs = search needs
 loop-holds : tie.Need-loop-holds Inv-loop μ-loop
 loop-holds c =
     let v = c .before .before .before .args in
-    rw (c .start .ensures) (follow-begins (v .table .now) (v .shape) (v .key) (v .first) (v .marks .now))
+    rw (c .start .ensures) (follow-begins (v .table .now) (v .shape) (v .key) (v .first) (v .marks .now)
+    (c .before .before .before .pre .long))
 
 is-unmarked-requires : tie.Need-is-unmarked-requires Inv-loop μ-loop
 is-unmarked-requires c κs = search needs
@@ -43,7 +46,8 @@ returns : tie.Need-returns Inv-loop μ-loop
 returns c =
     let v = c .before .before .before .before .before .before .before .before .before .args in
     let l = c .before .before .before .before .before .loop in
-    follow-marked (v .table .now) (v .shape) (v .key) (v .first) (v .marks .now) (l .marks) (l .tally) (l .before) (l .block) (l .inv)
+    follow-marked (v .table .now) (v .shape) (v .key) (v .first) (v .marks .now) (l .marks) (l .tally) (l .before)
+    (l .block) (l .inv)
     (c .before .before .before .before .loop-test .taken)
     (sym (c .before .before .is-unmarked .ensures) ∙ not-true _ (c .before .if1 .taken))
     (c .broken .result) (c .broken .ensures) (l .marks)
@@ -94,7 +98,8 @@ module _ (c : tie.Else1 Inv-loop μ-loop) where
   met = c .before .before .before .loop-test .taken
 
 previous-of-requires : tie.Need-previous-of-requires Inv-loop μ-loop
-previous-of-requires c κs = head-here (T c) (G c) (K c) (F c) (M₀ c) (M c) (S c) (P c) (B c) (following c) (asked c) (here c)
+previous-of-requires c κs =
+    head-here (T c) (G c) (K c) (F c) (M₀ c) (M c) (S c) (P c) (B c) (following c) (asked c) (here c)
 
 broken-requires-2 : tie.Need-broken-requires-2 Inv-loop μ-loop
 broken-requires-2 c κs = search needs
@@ -119,7 +124,13 @@ with-block-requires : tie.Need-with-block-requires Inv-loop μ-loop
 with-block-requires c κs =
     let d = c .before .before in (
       block-here (T d) (G d) (K d) (F d) (M₀ d) (M d) (S d) (P d) (B d) (following d) (asked d) (here d),
-      (asked d .short, room-here (T d) (G d) (K d) (F d) (M₀ d) (M d) (S d) (P d) (B d) (following d) (asked d) (here d), following d .inside),
+      (
+        (
+          asked d .short,
+          room-here (T d) (G d) (K d) (F d) (M₀ d) (M d) (S d) (P d) (B d) (following d) (asked d) (here d),
+        ),
+        following d .inside,
+      ),
     )
 
 next-of-requires : tie.Need-next-of-requires Inv-loop μ-loop
@@ -136,7 +147,8 @@ loop-again : tie.Need-loop-again Inv-loop μ-loop
 loop-again c =
     let d = c .before .before .before .before in
     rw (c .next-of .ensures, c .before .with-block .ensures)
-    (follow-on (T d) (G d) (K d) (F d) (M₀ d) (M d) (S d) (P d) (B d) (following d) (asked d) (here d) (word-sized (d .before .before .before .before .before .before .before .before)) (met d)
+    (follow-on (T d) (G d) (K d) (F d) (M₀ d) (M d) (S d) (P d) (B d) (following d) (asked d) (here d)
+    (word-sized (d .before .before .before .before .before .before .before .before)) (met d)
     (sym (c .before .before .before .previous-of .ensures) ∙ c .before .before .if2 .left))
 
 same-length-3 : tie.Need-same-length-3 Inv-loop μ-loop
@@ -146,7 +158,8 @@ returns-3 : tie.Need-returns-3 Inv-loop μ-loop
 returns-3 c =
     let v = c .before .before .before .before .before .args in
     let l = c .before .loop in
-    follow-ends (v .table .now) (v .shape) (v .key) (v .first) (v .marks .now) (l .marks) (l .tally) (l .before) (l .block) (l .inv) (c .loop-test .left)
+    follow-ends (v .table .now) (v .shape) (v .key) (v .first) (v .marks .now) (l .marks) (l .tally) (l .before)
+    (l .block) (l .inv) (c .loop-test .left)
 
 pub follow-used-spec : {M : Type 1} → statement M
 follow-used-spec =

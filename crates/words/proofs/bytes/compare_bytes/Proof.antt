@@ -33,13 +33,15 @@ returns : tie.Need-returns Inv-loop μ-loop
 returns c =
     let l = c .before .before .before .before in
     let v = l .before .args in
-    sym (l .loop .inv .1 ∙ step-less (v .a .now) (v .b .now) (v .p) (v .q) (v .n) (l .loop .i) (search needs) (search needs) (search needs) (c .if1 .taken))
+    sym (l .loop .inv .1 ∙ step-less (v .a .now) (v .b .now) (v .p) (v .q) (v .n) (l .loop .i) (search needs)
+    (search needs) (search needs) (c .if1 .taken))
 
 returns-2 : tie.Need-returns-2 Inv-loop μ-loop
 returns-2 c =
     let l = c .before .before .before .before .before in
     let v = l .before .args in
-    sym (l .loop .inv .1 ∙ step-more (v .a .now) (v .b .now) (v .p) (v .q) (v .n) (l .loop .i) (search needs) (search needs) (search needs) (c .if2 .taken))
+    sym (l .loop .inv .1 ∙ step-more (v .a .now) (v .b .now) (v .p) (v .q) (v .n) (l .loop .i) (search needs)
+    (search needs) (search needs) (c .if2 .taken))
 
 add-i : tie.Need-add-i Inv-loop μ-loop
 add-i c = search needs
@@ -50,8 +52,11 @@ loop-less c = search needs
 loop-again : tie.Need-loop-again Inv-loop μ-loop
 loop-again c =
     let l = c .before .before .before .before .before in
-    let v = l .before .args in
-    (search needs, l .loop .inv .1 ∙ step-same (v .a .now) (v .b .now) (v .p) (v .q) (v .n) (l .loop .i) (search needs) (search needs) (search needs) (c .before .if1 .left) (c .if2 .left))
+    let v = l .before .args in (
+      search needs,
+      l .loop .inv .1 ∙ step-same (v .a .now) (v .b .now) (v .p) (v .q) (v .n) (l .loop .i) (search needs)
+          (search needs) (search needs) (c .before .if1 .left) (c .if2 .left),
+    )
 
 returns-3 : tie.Need-returns-3 Inv-loop μ-loop
 unfolding order

@@ -16,7 +16,8 @@ turned-round-requires c κs = search needs
 returns : tie.Need-returns
 returns c =
     let v = c .before .before .before .args in
-    c .turned-round .ensures ∙ ap turnedRound (c .before .low-first .ensures) ∙ turned-is (v .s .now) (v .at) (λ i. omega (arith, c .before .before .shared-slice-known .given i))
+    c .turned-round .ensures ∙ ap turnedRound (c .before .low-first .ensures)
+    ∙ turned-is (v .s .now) (v .at) (λ i. omega (arith, c .before .before .shared-slice-known .given i))
 
 pub eight-spec : {M : Type 1} → statement M
 eight-spec = tie.close (tie.spec low-first-requires turned-round-requires returns)

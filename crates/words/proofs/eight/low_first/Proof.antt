@@ -27,7 +27,9 @@ add-result : tie.Need-add-result
 add-result c = search needs
 
 returns : tie.Need-returns
-returns c = rw (c .before .long .ensures, c .long2 .ensures) (sym (little-join (c .before .before .before .args .s .now) (c .before .before .before .args .at) 4 4))
+returns c =
+    rw (c .before .long .ensures, c .long2 .ensures)
+    (sym (little-join (c .before .before .before .args .s .now) (c .before .before .before .args .at) 4 4))
 
 pub low-first-spec : {M : Type 1} → statement M
 low-first-spec =

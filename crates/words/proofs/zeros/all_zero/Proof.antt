@@ -33,7 +33,8 @@ returns : tie.Need-returns Inv-loop μ-loop
 returns c =
     let v = c .before .before .before .before .args in
     let i = c .before .before .before .loop .i in
-    sym (each-fails (λ (j : ℕ). eqb (byte (v .s .now) (v .at + j)) 0) (v .n) i (search needs) (ne-eqb (byte (v .s .now) (v .at + i)) 0 (c .if1 .taken)))
+    sym (each-fails (λ (j : ℕ). eqb (byte (v .s .now) (v .at + j)) 0) (v .n) i (search needs)
+    (ne-eqb (byte (v .s .now) (v .at + i)) 0 (c .if1 .taken)))
 
 add-i : tie.Need-add-i Inv-loop μ-loop
 add-i c = search needs
@@ -44,8 +45,11 @@ loop-less c = search needs
 loop-again : tie.Need-loop-again Inv-loop μ-loop
 loop-again c =
     let v = c .before .before .before .before .args in
-    let l = c .before .before .before .loop in
-    (search needs, each-more (λ (j : ℕ). eqb (byte (v .s .now) (v .at + j)) 0) (l .i) (l .inv .1) (eq-eqb (byte (v .s .now) (v .at + l .i)) 0 (c .if1 .left)))
+    let l = c .before .before .before .loop in (
+      search needs,
+      each-more (λ (j : ℕ). eqb (byte (v .s .now) (v .at + j)) 0) (l .i) (l .inv .1)
+          (eq-eqb (byte (v .s .now) (v .at + l .i)) 0 (c .if1 .left)),
+    )
 
 returns-2 : tie.Need-returns-2 Inv-loop μ-loop
 returns-2 c =

@@ -44,7 +44,8 @@ returns-2 : tie.Need-returns-2 Inv-loop μ-loop
 returns-2 c =
     let v = c .before .before .args in
     let l = c .before .loop in
-    sym (before-whole (v .s .now) (v .at) (v .n) (subst (λ (k : ℕ). Nonzero (v .s .now) (v .at) k) (le-antisymm (l .inv .0) (c .loop-test .left)) (l .inv .1)))
+    sym (before-whole (v .s .now) (v .at) (v .n) (subst (λ (k : ℕ). Nonzero (v .s .now) (v .at) k)
+    (le-antisymm (l .inv .0) (c .loop-test .left)) (l .inv .1)))
 
 pub before-zero-spec : {M : Type 1} → statement M
 before-zero-spec =

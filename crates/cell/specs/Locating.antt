@@ -1,0 +1,54 @@
+-- Where a cell stands, in two steps: first block and field, then count and place. What its bytes mean comes after. Both
+-- steps are defined for any bytes, given the numbers of a header. Definitions only.
+use Prim.Native.Nat.{ℕ, _+_, _-_, _*_, _≤_}
+use mathlib.Core.Path.{_≡_}
+use mathlib.Core.Bool.{cond}
+use mathlib.Core.List.{List}
+use lib.Dec.{ltb}
+use lib.ListN.{length}
+use Rattle.words.specs.Numbers.{byte}
+use Rattle.header.specs.Refusals.{wrongCount, badArgument}
+use Rattle.header.specs.Kinds.{kindOf, Permitted}
+use Rattle.header.specs.Fields.{widthAt, widthSum}
+use Rattle.header.specs.Numbers.{fieldOf}
+use Rattle.header.specs.declared.Header.{Header}
+use Rattle.header.specs.declared.kind.FieldKind.{FieldKind}
+use Rattle.header.specs.declared.kind.StoredKind.the-variants.{Kind}
+use Rattle.header.specs.declared.field.Field.{Field}
+use Rattle.header.specs.declared.field.Field.the-variants.{Missing}
+use Rattle.blocks.specs.Shape.{shapeOf, hasBlock, recordAt}
+use Rattle.blocks.specs.Counts.{countIn}
+use Rattle.blocks.specs.declared.Shape.{Shape}
+use Rattle.blocks.specs.declared.count.Count.{Count}
+use Rattle.blocks.specs.declared.count.Count.the-variants.{Records, Bad}
+use Rattle.cell.specs.declared.locate.Place.{Place}
+use Rattle.cell.specs.declared.locate.Place.the-variants.{At, Refused}
+
+-- ---- step 1: block and field
+
+-- kind, width and offset in the record of field f (from 1); Missing, which is 13, for no such block or no such field
+unfoldable pub fieldAt : List ℕ → Header → ℕ → ℕ → Field
+fieldAt t h b f = cond (hasBlock (shapeOf h) b) (fieldOf t h f) Missing
+
+-- ---- step 2: count and place
+
+-- by the count of block b: 9 where it is bad, 13 for no such place (from 0); else where the record begins, and the
+-- offset behind that
+unfoldable pub placeWith : Shape → ℕ → ℕ → ℕ → Count → Place
+placeWith g b p offset Bad = Refused wrongCount
+placeWith g b p offset (Records n) = cond (ltb p n) (At (recordAt g b p + offset)) (Refused badArgument)
+
+-- where the cell at this offset of the record at a block and place begins
+unfoldable pub placeAt : List ℕ → Shape → ℕ → ℕ → ℕ → Place
+placeAt t g b p offset = placeWith g b p offset (countIn t g b)
+
+-- ---- what both steps give
+
+-- a located cell of an accepted table: the kind and width are the stored pair's, the kind permits the width, the cell
+-- begins behind the fields before it in its record, and it is inside the table
+pub record Located (t : List ℕ) (h : Header) (b p f : ℕ) (kind : FieldKind) (width at : ℕ) : Type 0 where
+  pub wide : width ≡ widthAt t (h .area) (f - 1)
+  pub stored : kindOf (byte t (h .area + 2 * (f - 1))) width ≡ Kind kind
+  pub permitted : Permitted kind width
+  pub begins : at ≡ recordAt (shapeOf h) b p + widthSum t (h .area) (f - 1)
+  pub inside : at + width ≤ length t
