@@ -1,5 +1,5 @@
 // Pieces put into a lent buffer, one behind the other: each function answers the offset behind its piece.
-// A caller sees to the room; every other byte of the buffer stays.
+// The functions are helpers of the crates above, which see to the room; every other byte of the buffer stays.
 ghost use mathlib.Core.List.{[], _∷_};
 ghost use Rattle.buffer.specs.Pieces.{Room, Wrote};
 ghost use Rattle.buffer.specs.Text.{decimal, hexText, shiftedText};

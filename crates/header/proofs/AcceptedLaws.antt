@@ -115,27 +115,23 @@ module _ (t : List ℕ) (e : headerRefusal t ≡ 0) where
 -- ---- a header that was read: what its answer r says, without a word on the rules
 
 module _ (t : List ℕ) (r : HeaderAnswer) (read : r ≡ headerAnswer t) where
+  number : r .refusal ≡ headerRefusal t
+  number = ap (λ (a : HeaderAnswer). a .refusal) read ∙ refusal-is t
+
   kept : r .refusal ≡ 0 → headerRefusal t ≡ 0
-  kept e = sym (refusal-is t) ∙ ap (λ (a : HeaderAnswer). a .refusal) (sym read) ∙ e
+  kept e = sym number ∙ e
 
-  -- where its number is 0, its numbers are the header's, with their bounds
-  pub read-numbers : r .refusal ≡ 0 → r .header ≡ numbersOf t
-  unfolding headerAnswer headerFirst acceptedWith
-  read-numbers e =
-      let n = unless-kept (headerRefusal t) refusedWith (acceptedWith (numbersOf t)) (kept e) in
-      ap (λ (a : HeaderAnswer). a .header) (read ∙ n)
-
-  -- it is all of the answer, and so is a refusal's number
+  -- where its number is 0, it is that and the header's numbers, with their bounds; else a refusal's number and no other
   pub read-kept : r .refusal ≡ 0 → r ≡ acceptedWith (numbersOf t)
   unfolding headerAnswer headerFirst
   read-kept e = read ∙ unless-kept (headerRefusal t) refusedWith (acceptedWith (numbersOf t)) (kept e)
 
   pub read-refused : (r .refusal ≡ 0 → ⊥) → r ≡ refusedWith (r .refusal)
-  unfolding headerAnswer headerFirst
-  read-refused h =
-      let n : r .refusal ≡ headerRefusal t = ap (λ (a : HeaderAnswer). a .refusal) read ∙ refusal-is t in
-      read ∙ unless-refused (headerRefusal t) refusedWith (acceptedWith (numbersOf t)) (λ z. h (n ∙ z))
-      ∙ ap refusedWith (sym n)
+  read-refused h = read ∙ refused-only t (λ z. h (number ∙ z)) ∙ ap refusedWith (sym number)
+
+  pub read-numbers : r .refusal ≡ 0 → r .header ≡ numbersOf t
+  unfolding acceptedWith
+  read-numbers e = ap (λ (a : HeaderAnswer). a .header) (read-kept e)
 
   pub numbers-accepted : r .refusal ≡ 0 → Accepted t (numbersOf t)
   numbers-accepted e = accepted t (kept e)
@@ -152,8 +148,7 @@ module _ (t : List ℕ) (r : HeaderAnswer) (read : r ≡ headerAnswer t) where
     pub first-refused : (r .refusal ≡ 0 → ⊥) → headerFirst t refused others ≡ refused (r .refusal)
     unfolding headerFirst
     first-refused h =
-        let n : r .refusal ≡ headerRefusal t = ap (λ (a : HeaderAnswer). a .refusal) read ∙ refusal-is t in
-        unless-refused (headerRefusal t) refused others (λ z. h (n ∙ z)) ∙ ap refused (sym n)
+        unless-refused (headerRefusal t) refused others (λ z. h (number ∙ z)) ∙ ap refused (sym number)
 
 -- what a refusal has, and what comes after the rules where they are kept, every answer has that has the rules first
 pub first-holds : {A : Type 0} (t : List ℕ) (refused : ℕ → A) (others : A) (Holds : A → Type 0) →
