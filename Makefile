@@ -25,12 +25,14 @@ RUST = PARADOX_LIB=$(abspath $(PARADOX_LIB)) CARGO_TARGET_DIR=target/tests \
 
 define HELP
 make list FILE=samples/parts.db   print a table of at most 65,536 bytes, or why it is refused
+make export FILE=samples/parts.db write a table of any size as comma-separated values, or why it is refused
 make test                         prove everything from nothing and run every test, which takes a good while
 make lib                          prove and build target/staticlib/libparadox.a
-make example                      build the C example, target/counter
+make example                      build the C examples, target/counter and target/export
 make samples                      write the files of samples/ anew
+make expected                     write the outputs of the test programs anew, as the Rust model has them
 make soak COUNT=.. SEED=..        compare the library and the lister with the Rust model on many files, 30,000 or more
-make bench                        measure the four calls beside the Rust model
+make bench                        measure the calls beside the Rust model
 make install PREFIX=..            install archive, header, manual and pkg-config file (DESTDIR is honoured)
 make uninstall PREFIX=..          remove them
 make clean                        remove target/, proofs included
@@ -53,11 +55,14 @@ export HELP PKG_CONFIG_FILE
 # $(call need,PROGRAM,WHAT IT BELONGS TO)
 need = command -v $(1) >/dev/null || { echo 'There is no $(1) on the PATH: $(2) is needed for this.' >&2; exit 1; }
 NEED_RT = $(call need,rt,the Rattle kit)
+# $(call need_file,TARGET): FILE names a file that is there.
+need_file = test -n "$(FILE)" || { echo 'Which table? Say make $(1) FILE=samples/parts.db' >&2; exit 1; }; \
+	test -f "$(FILE)" || { echo 'There is no file $(FILE).' >&2; exit 1; }
 # $(call quietly,COMMAND): what it says is kept in target/rt.txt, and shown where it fails.
 quietly = mkdir -p target && { $(1) >target/rt.txt 2>&1 || { cat target/rt.txt >&2; exit 1; }; }
 NEED_CARGO = $(call need,cargo,Rust)
 
-.PHONY: help list test lib example samples soak bench install uninstall clean cargo
+.PHONY: help list export test lib example samples expected soak bench install uninstall clean cargo
 
 help:
 	@printf '%s\n' "$$HELP"
@@ -67,10 +72,14 @@ cargo:
 	@$(NEED_CARGO)
 
 list:
-	@test -n "$(FILE)" || { echo 'Which table? Say make list FILE=samples/parts.db' >&2; exit 1; }
-	@test -f "$(FILE)" || { echo 'There is no file $(FILE).' >&2; exit 1; }
+	@$(call need_file,list)
 	@$(MAKE) --no-print-directory --silent $(LISTER)
 	@$(LISTER) <"$(FILE)"
+
+export:
+	@$(call need_file,export)
+	@$(MAKE) --no-print-directory --silent target/export
+	@target/export "$(FILE)"
 
 test:
 	@$(NEED_RT)
@@ -79,11 +88,14 @@ test:
 
 lib: $(BUILT_ARCHIVE)
 
-example: target/counter
+example: target/counter target/export
 
 samples: cargo $(ARCHIVE)
 	@mkdir -p samples
 	$(RUST) samples -- samples
+
+expected: cargo $(ARCHIVE)
+	$(RUST) expected -- --write crates
 
 soak: cargo $(ARCHIVE) $(LISTER)
 	$(RUST) differential -- --cases $(COUNT) --seed $(SEED) --lister $(LISTER)
@@ -124,6 +136,6 @@ $(LISTER): $(SOURCES)
 	@$(call quietly,rt check lister)
 	@touch -c $@
 
-target/counter: examples/counter.c include/paradox.h $(ARCHIVE)
+target/counter target/export: target/%: examples/%.c examples/common.h include/paradox.h $(ARCHIVE)
 	@mkdir -p target
-	$(CC) $(CFLAGS) -Iinclude $(LDFLAGS) -o $@ examples/counter.c $(ARCHIVE)
+	$(CC) $(CFLAGS) -Iinclude $(LDFLAGS) -o $@ $< $(ARCHIVE)

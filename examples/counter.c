@@ -3,10 +3,7 @@
  */
 #include <paradox.h>
 
-#include <errno.h>
-#include <stdio.h>
-#include <stdlib.h>
-#include <string.h>
+#include "common.h"
 
 enum { FOUND = 0, ABSENT = 1, FAILED = 2 };
 
@@ -20,97 +17,10 @@ static const char USAGE[] =
     "Exit status: 0 found; 1 absent; 2 a file or the key is refused or cannot be read. Where only the index is\n"
     "refused, the scan's answer is printed too, and the status is 2.\n";
 
-/* Each refusal in words. */
-static const struct {
-    uint32_t number;
-    const char *words;
-} REFUSALS[] = {
-    {PARADOX_TOO_SHORT, "the table is too short to have a header"},
-    {PARADOX_NOT_A_TABLE, "the first file is not a table"},
-    {PARADOX_UNKNOWN_VERSION, "the table's version is not known"},
-    {PARADOX_ENCRYPTED, "the table is encrypted"},
-    {PARADOX_HEADER_LIMIT, "a number in the table's header is out of its limits"},
-    {PARADOX_WRONG_LENGTH, "the table is longer or shorter than its header says"},
-    {PARADOX_FIELD_RULE, "the table's fields are damaged"},
-    {PARADOX_CHAIN_RULE, "the table's chain of blocks is broken"},
-    {PARADOX_WRONG_COUNT, "the table's record counts are wrong"},
-    {PARADOX_KEY_ORDER, "the table's keys are out of order"},
-    {PARADOX_NO_MEANING, "the cell has no meaning"},
-    {PARADOX_BLOB_CELL, "the cell is a blob"},
-    {PARADOX_BAD_ARGUMENT, "the table has no key, or a key of another length"},
-    {PARADOX_SHORT_BUFFER, "the mark buffer is too short"},
-    {PARADOX_TOO_MANY_RECORDS, "the table has too many records"},
-    {PARADOX_INDEX_TOO_SHORT, "the index is too short to have a header"},
-    {PARADOX_NOT_AN_INDEX, "the second file is not a primary index"},
-    {PARADOX_INDEX_VERSION, "the index's version is not known"},
-    {PARADOX_INDEX_LIMIT, "a number in the index's header is out of its limits or does not suit the table"},
-    {PARADOX_INDEX_LENGTH, "the index is longer or shorter than its header says"},
-    {PARADOX_INDEX_TREE, "the index does not fit the table; have Paradox rebuild it"},
-};
-
-/* Bytes on the heap. */
-struct bytes {
-    uint8_t *at;
-    size_t len;
-};
-
 static int refused(uint32_t number)
 {
-    const char *words = "unknown refusal";
-    for (size_t i = 0; i < sizeof REFUSALS / sizeof REFUSALS[0]; i++) {
-        if (REFUSALS[i].number == number) {
-            words = REFUSALS[i].words;
-        }
-    }
-    fprintf(stderr, "refused %lu: %s\n", (unsigned long)number, words);
+    say_refused(number);
     return FAILED;
-}
-
-/* Doubles the room for a file's bytes. Answers 0 where there is no memory for that. */
-static int grow(struct bytes *bytes, size_t *room)
-{
-    if (*room > SIZE_MAX / 2) {
-        return 0;
-    }
-    size_t more = *room == 0 ? 4096 : *room * 2;
-    uint8_t *at = realloc(bytes->at, more);
-    if (at == NULL) {
-        return 0;
-    }
-    bytes->at = at;
-    *room = more;
-    return 1;
-}
-
-/* Reads an open file to its end. Answers NULL, or what went wrong. */
-static const char *read_to_end(FILE *file, struct bytes *bytes)
-{
-    size_t room = 0;
-    while (!feof(file)) {
-        if (bytes->len == room && !grow(bytes, &room)) {
-            return "too large for the memory there is";
-        }
-        bytes->len += fread(bytes->at + bytes->len, 1, room - bytes->len, file);
-        if (ferror(file)) {
-            return strerror(errno);
-        }
-    }
-    return NULL;
-}
-
-/* Reads a whole file. Answers 0, with a message, where it cannot be read. The caller frees the bytes in either case. */
-static int read_file(const char *name, struct bytes *bytes)
-{
-    errno = 0;
-    FILE *file = fopen(name, "rb");
-    const char *trouble = file == NULL ? strerror(errno) : read_to_end(file, bytes);
-    if (trouble != NULL) {
-        fprintf(stderr, "%s: %s\n", name, trouble);
-    }
-    if (file != NULL) {
-        fclose(file);
-    }
-    return trouble == NULL;
 }
 
 /* The value of a hexadecimal digit, or -1. */
@@ -136,25 +46,24 @@ static int hex_key(const char *digits, struct bytes *key)
     return strlen(digits) % 2 == 0;
 }
 
-/* The type and the width of the first field of an accepted table, at the front of its field area. */
-static const uint8_t *first_field(const uint8_t *table)
+/* The width of the key where it is one text field, else 0. A refused call leaves zeros, which are no such key. */
+static size_t text_key_width(const struct bytes *table)
 {
-    return table + (table[0x39] <= 0x04 ? 0x58 : 0x78);
+    uint64_t header[PARADOX_HEADER_NUMBERS];
+    uint64_t field[PARADOX_FIELD_NUMBERS];
+    paradox_header(table->at, table->len, header, PARADOX_HEADER_NUMBERS);
+    paradox_field(table->at, table->len, 1, field, PARADOX_FIELD_NUMBERS);
+    int is_text = header[PARADOX_HEADER_KEY_FIELDS] == 1 && field[PARADOX_FIELD_KIND] == PARADOX_TEXT;
+    return is_text ? (size_t)field[PARADOX_FIELD_WIDTH] : 0;
 }
 
-/* Whether the key of an accepted table is one text field. */
-static int is_text_key(const uint8_t *table)
-{
-    return paradox_word(table, 0x23) == 1 && first_field(table)[0] == 0x01;
-}
-
-/* The key's stored bytes, for an accepted table. Answers 0, with a message, where there is no such key. */
-static int make_key(const char *text, const uint8_t *table, struct bytes *key)
+/* The key's stored bytes. Answers 0, with a message, where there is no such key. */
+static int make_key(const char *text, const struct bytes *table, struct bytes *key)
 {
     size_t len = strlen(text);
-    size_t width = first_field(table)[1];
-    size_t room = len > width ? len : width;
-    key->at = calloc(room, 1);
+    size_t width = text_key_width(table);
+    key->room = len > width ? len : width;
+    key->at = (uint8_t *)calloc(key->room + 1, 1); /* never a request for nothing */
     if (key->at == NULL) {
         fprintf(stderr, "no memory for the key\n");
         return 0;
@@ -166,12 +75,12 @@ static int make_key(const char *text, const uint8_t *table, struct bytes *key)
         }
         return good;
     }
-    if (!is_text_key(table)) {
+    if (width == 0) {
         fprintf(stderr, "%s: the key is not one text field; give its bytes, as hex:..\n", text);
         return 0;
     }
     memcpy(key->at, text, len);
-    key->len = room; /* text that is too long stays as it is: the lookup refuses it */
+    key->len = key->room; /* text that is too long stays as it is: the lookup refuses it */
     return 1;
 }
 
@@ -232,7 +141,7 @@ static int serve(const struct bytes *table, const struct bytes *index, const cha
             return FAILED;
         }
     }
-    if (!make_key(text, table->at, key)) {
+    if (!make_key(text, table, key)) {
         return FAILED;
     }
     if (index_refused) {
@@ -243,9 +152,9 @@ static int serve(const struct bytes *table, const struct bytes *index, const cha
 
 int main(int argc, char **argv)
 {
-    struct bytes table = {NULL, 0};
-    struct bytes index = {NULL, 0};
-    struct bytes key = {NULL, 0};
+    struct bytes table = {NULL, 0, 0};
+    struct bytes index = {NULL, 0, 0};
+    struct bytes key = {NULL, 0, 0};
     int status = FAILED;
     if (argc != 4) {
         fputs(USAGE, stderr);

@@ -1,75 +1,19 @@
 /*
- * The four calls as C sees them: empty buffers, mark buffers of every kind, answers in their parts. The files are document 01's
- * example of two records and an index of one level for it, in heap buffers of exactly their length, so that valgrind sees
- * any access beyond them.
+ * The checks and the lookups as C sees them: empty buffers, mark buffers of every kind, answers in their parts. The
+ * files are document 01's example of two records and an index of one level for it.
  */
-#include <paradox.h>
+#include "common.h"
 
-#include <stdio.h>
-#include <stdlib.h>
-#include <string.h>
-
-enum { HEADER = 256, BLOCK = 1024, TABLE = HEADER + 2 * BLOCK, INDEX = HEADER + BLOCK, KEY = 3, BEFORE = 0x5a };
-
-static unsigned passed;
-static unsigned failed;
-
-static void expect(const char *what, uint64_t got, uint64_t wanted)
-{
-    if (got == wanted) {
-        passed++;
-        return;
-    }
-    failed++;
-    printf("%s: %llx, expected %llx\n", what, (unsigned long long)got, (unsigned long long)wanted);
-}
-
-static void put_word(uint8_t *bytes, size_t offset, unsigned word)
-{
-    bytes[offset] = (uint8_t)(word & 0xff);
-    bytes[offset + 1] = (uint8_t)(word >> 8);
-}
-
-static uint8_t *zeros(size_t len)
-{
-    uint8_t *bytes = calloc(len, 1);
-    if (bytes == NULL) {
-        puts("no memory");
-        exit(2);
-    }
-    return bytes;
-}
-
-/* Numbers that a table's and an index's header have in common. */
-static uint8_t *file_of(size_t len, unsigned record_size, unsigned type, unsigned blocks)
-{
-    uint8_t *file = zeros(len);
-    put_word(file, 0x00, record_size);
-    put_word(file, 0x02, HEADER);
-    file[0x04] = (uint8_t)type;
-    file[0x05] = 1;
-    put_word(file, 0x0c, blocks);
-    file[0x39] = 0x09;
-    return file;
-}
+enum { TABLE = HEADER + 2 * BLOCK, INDEX = HEADER + BLOCK, KEY = 3, BEFORE = 0x5a };
 
 /* A keyed 3-byte text and a short. Block 1 holds cog, 12 and nut, blank; block 2 is free. */
 static uint8_t *make_table(void)
 {
-    static const uint8_t FIELDS[] = {0x01, 3, 0x03, 2};
-    static const uint8_t NAMES[] = "Part\0Stock";
+    static const struct field FIELDS[] = {{0x01, 3, "Part"}, {0x03, 2, "Stock"}};
     static const uint8_t RECORDS[] = {'c', 'o', 'g', 0x80, 0x0c, 'n', 'u', 't', 0x00, 0x00};
-    uint8_t *table = file_of(TABLE, 5, 0, 2);
-    table[0x06] = 2;
-    put_word(table, 0x0e, 1);
-    put_word(table, 0x10, 1);
-    put_word(table, 0x21, 2);
-    put_word(table, 0x23, 1);
-    put_word(table, 0x4d, 2);
-    memcpy(table + 0x78, FIELDS, sizeof FIELDS);
-    memcpy(table + 0xd7, NAMES, sizeof NAMES);
-    put_word(table, HEADER + 4, 5);
-    memcpy(table + HEADER + 6, RECORDS, sizeof RECORDS);
+    uint8_t *table = table_of(FIELDS, 2, 1, 2);
+    set_chains(table, 1, 1, 2, 2);
+    set_block(table, 1, 0, 0, RECORDS, 2);
     return table;
 }
 
@@ -77,10 +21,10 @@ static uint8_t *make_table(void)
 static uint8_t *make_index(void)
 {
     static const uint8_t ENTRY[] = {'c', 'o', 'g', 0x80, 0x01, 0x80, 0x00, 0x80, 0x00};
-    uint8_t *index = file_of(INDEX, KEY + 6, 1, 1);
+    uint8_t *index = file_of(KEY + 6, 1, 1);
     put_word(index, 0x1e, 1);
     index[0x20] = 1;
-    memcpy(index + HEADER + 6, ENTRY, sizeof ENTRY);
+    set_block(index, 1, 0, 0, ENTRY, 1);
     return index;
 }
 
@@ -161,7 +105,7 @@ static void lookups(const uint8_t *table, const uint8_t *index)
     expect_refused("scan, no marks", paradox_scan(table, TABLE, cog, KEY, NULL, 0), PARADOX_SHORT_BUFFER);
     expect_refused("walk, no key", paradox_walk(table, TABLE, index, INDEX, NULL, 0), PARADOX_BAD_ARGUMENT);
     expect_refused("walk, no index", paradox_walk(table, TABLE, NULL, 0, cog, KEY), PARADOX_INDEX_TOO_SHORT);
-    expect_refused("walk, the table as index", paradox_walk(table, TABLE, table, TABLE, cog, KEY), PARADOX_NOT_AN_INDEX);
+    expect_refused("walk, a table as index", paradox_walk(table, TABLE, table, TABLE, cog, KEY), PARADOX_NOT_AN_INDEX);
     free(marks);
 }
 
@@ -172,8 +116,7 @@ int main(void)
     empty_buffers();
     checks(table, index);
     lookups(table, index);
-    printf("calls: %u passed, %u failed\n", passed, failed);
     free(index);
     free(table);
-    return failed == 0 ? 0 : 1;
+    return verdict("calls");
 }

@@ -95,6 +95,29 @@ impl Fence {
         &mut self.memory_mut()[lent]
     }
 
+    /// Puts numbers at one of the fences, as `place` puts bytes.
+    pub fn place_numbers(&mut self, numbers: &[u64], side: Side) {
+        // SAFETY: a number is eight bytes, each of which may be anything.
+        let (_, bytes, _) = unsafe { numbers.align_to() };
+        self.place(bytes, side);
+    }
+
+    /// The lent numbers. Both fences are where a number may begin and end.
+    pub fn numbers(&self) -> &[u64] {
+        // SAFETY: eight bytes are a number, whatever they are.
+        let (before, numbers, behind) = unsafe { self.lent().align_to() };
+        assert!(before.is_empty() && behind.is_empty(), "no numbers");
+        numbers
+    }
+
+    /// The lent numbers, to be written.
+    pub fn numbers_mut(&mut self) -> &mut [u64] {
+        // SAFETY: as above.
+        let (before, numbers, behind) = unsafe { self.lent_mut().align_to_mut() };
+        assert!(before.is_empty() && behind.is_empty(), "no numbers");
+        numbers
+    }
+
     /// Whether the guard is as it was placed.
     pub fn is_intact(&self) -> bool {
         self.memory()[self.guard()]

@@ -1,10 +1,11 @@
 //! Independent tests of the Paradox library: a second implementation of document 01, files made by
-//! rule and broken by rule, and the comparison of the two over the four C calls and the lister.
+//! rule and broken by rule, and the comparison of the two over the C calls and the lister.
 
 pub mod bench;
 pub mod calls;
 pub mod codes;
 pub mod differential;
+pub mod expected;
 pub mod fence;
 pub mod generate;
 pub mod layout;

@@ -1,7 +1,9 @@
 //! The library and the model on the largest tables there can be: 32,767 blocks of 4 KB.
 
+use brittomaz_tests::calls::{cursor_of, RECORD};
 use brittomaz_tests::generate::{tree, IndexShape, Shape, StoredField, TableImage, UsedBlock};
 use brittomaz_tests::layout::{MOST_BLOCKS, MOST_UNITS, RECORDS};
+use brittomaz_tests::model::{Cursor, Stepped};
 use brittomaz_tests::{calls, codes, model};
 
 const MARKS: usize = MOST_BLOCKS as usize + 3;
@@ -63,6 +65,40 @@ fn keyed_chain() -> (Vec<UsedBlock>, u16) {
     };
     let chain = (1..=MOST_BLOCKS).map(&mut block).collect();
     (chain, next)
+}
+
+/// Blocks without records up to the last of the chain, which is full.
+#[test]
+fn farthest_record() {
+    let block = |number| UsedBlock {
+        number,
+        records: vec![b'x'; if number == 1 { 4090 } else { 0 }],
+    };
+    let table = largest(1, 0, (1..=MOST_BLOCKS).rev().map(block).collect()).bytes();
+    let first = u64::from(MOST_BLOCKS - 1) << 48 | 1 << 16 | 1 << 8;
+    let last = first | 4089 << 32;
+    let place = u64::from(u16::MAX) + 6 + 4089;
+    let cell = [calls::TEXT, place, 1, 0];
+    let mut numbers = [7; 5];
+    assert_eq!(calls::start(&table, &mut numbers), RECORD);
+    assert_eq!(numbers, [first, 7, 7, 7, 7]);
+    numbers[0] = last - (1 << 32);
+    assert_eq!(calls::step(&table, &mut numbers), RECORD);
+    assert_eq!(numbers, [last, 7, 7, 7, 7]);
+    assert_eq!(calls::step(&table, &mut numbers), 0);
+    assert_eq!(numbers, [0, 7, 7, 7, 7]);
+    assert_eq!(calls::cell(&table, 1, 4089, 1, &mut numbers), 0);
+    assert_eq!(numbers[..4], cell);
+    assert_eq!(calls::record(&table, 1, 4089, &mut numbers), 0);
+    assert_eq!(numbers[..4], cell);
+    assert_eq!(calls::record(&table, 1, 4090, &mut numbers), 13);
+    assert_eq!(numbers, [0; 5]);
+    let model = model::start(&table);
+    assert_eq!(model, Stepped::Record(cursor_of(first)));
+    assert_eq!(
+        model::step(&table, cursor_of(last)),
+        Stepped::End(Cursor::ENDED)
+    );
 }
 
 #[test]

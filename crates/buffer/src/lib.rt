@@ -1,5 +1,10 @@
 // Pieces put into a lent buffer, one behind the other: each function answers the offset behind its piece.
-// The functions are helpers of the crates above, which see to the room; every other byte of the buffer stays.
+// The functions are helpers of the crates above, which see to the room; every other byte of the buffer stays. `numbers`
+// has the same for a buffer of numbers, and makes one 0 as a whole.
+mod numbers;
+
+pub use numbers::clear_numbers;
+pub use numbers::put_numbers;
 ghost use mathlib.Core.List.{[], _∷_};
 ghost use Rattle.buffer.specs.Pieces.{Room, Wrote};
 ghost use Rattle.buffer.specs.Text.{decimal, hexText, shiftedText};

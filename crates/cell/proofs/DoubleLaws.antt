@@ -76,6 +76,13 @@ not-nan nan h = true≢false h
 not-nan (inf s) h = tt
 not-nan (fin s m e) h = tt
 
+-- a finite number is no not-a-number
+pub finite-number : (x : Float) → finite x ≡ true → T (not (isNan x))
+unfolding isNan
+finite-number nan e = true≢false (sym e)
+finite-number (inf s) e = tt
+finite-number (fin s m e) h = tt
+
 zero-bits : (n : ℕ) → n ≡ 0
     → 9223372036854775808 + (size n - 53) * 4503599627370496 + n / 2 ^ (size n - 53) ≡ 9223372036854775808
 unfolding size

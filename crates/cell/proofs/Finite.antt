@@ -60,7 +60,9 @@ module _ (x : Float) where
       absurd (omega arith)
   value-finite Kin.Blob s at w h = no-cell h
 
-  cell-finite : (kind : FieldKind) (s : List ℕ) (at w : ℕ) → cellAt kind s at w ≡ Is (Val.Number x) → finite x ≡ true
+  -- a number that a cell's bytes mean is finite
+  pub cell-finite : (kind : FieldKind) (s : List ℕ) (at w : ℕ) → cellAt kind s at w ≡ Is (Val.Number x) →
+      finite x ≡ true
   cell-finite kind s at w h =
       ⊎-elim
       (λ (c : (allZero s at w ≡ true) × (Val.Number x ≡ Val.Blank)).

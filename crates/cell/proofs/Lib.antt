@@ -5,6 +5,7 @@ pub mod Inverse
 pub mod LocatingLaws
 pub mod PlaceLaws
 pub mod ReadingLaws
+pub mod RefusalLaws
 pub mod RoundTrip
 pub mod SignedCasts
 pub mod TableRoundTrip

@@ -1,6 +1,6 @@
 -- A cell that reads as a value stands inside the table, and its text is a part of it. Assumes nothing.
 use mathlib.Core.Path.{_≡_, refl, subst}
-use mathlib.Core.Bool.{Bool, true, false, cond, not, _&&_}
+use mathlib.Core.Bool.{not, _&&_}
 use mathlib.Core.List.{List}
 use Prim.Native.Nat.{ℕ, _+_, _-_, _≤_}
 use native.Mathlib.Omega.{arith}
@@ -12,8 +12,8 @@ use lib.Ieee.Scale.{finite}
 use Rattle.words.specs.Numbers.{big}
 use Rattle.words.specs.Order.{range}
 use Rattle.words.specs.Zeros.{allZero, beforeZero}
+use Rattle.words.proofs.Cases.{either}
 use Rattle.words.proofs.ZeroLaws.{before-most}
-use Rattle.header.specs.Refusals.{noMeaning}
 use Rattle.header.specs.Kinds.{isBlob, Permitted}
 use Rattle.header.specs.Numbers.{numbersOf}
 use Rattle.header.specs.Rules.{Accepted}
@@ -78,50 +78,40 @@ abbrev pub ends : Cell → ℕ
 ends c = partOf c .start + partOf c .len
 
 -- a part ends no later than the w bytes at an offset, and is no longer
-abbrev Within : Cell → ℕ → ℕ → Type 0
-Within c at w = (ends c ≤ at + w) × (partOf c .len ≤ w)
+abbrev Within : ℕ → ℕ → Cell → Type 0
+Within at w c = (ends c ≤ at + w) × (partOf c .len ≤ w)
 
-within-if : (b : Bool) (c d : Cell) (at w : ℕ) → Within c at w → Within d at w → Within (cond b c d) at w
-within-if true c d at w h k = h
-within-if false c d at w h k = k
-
-date-within : (z : ℤ) (at w : ℕ) → Within (dateCell z) at w
+date-within : (z : ℤ) (at w : ℕ) → Within at w (dateCell z)
 unfolding dateCell partOf valuePart
 date-within (pos d) at w =
-    within-if (isDate d) (Is (Val.Date d)) (Refused noMeaning) at w (omega arith, omega arith)
-    (omega arith, omega arith)
+    either (Within at w) (isDate d) _ _ (omega arith, omega arith) (omega arith, omega arith)
 date-within (negsuc d) at w = (omega arith, omega arith)
 
-value-within : (kind : FieldKind) (s : List ℕ) (at w : ℕ) → Within (valueAt kind s at w) at w
+value-within : (kind : FieldKind) (s : List ℕ) (at w : ℕ) → Within at w (valueAt kind s at w)
 unfolding valueAt textWith numberCell logicalCell partOf valuePart
 value-within Kin.Text s at w =
     let m = before-most s at w in
-    within-if (allZero s (at + beforeZero s at w) (w - beforeZero s at w)) (Is (Val.Text at (beforeZero s at w)))
-    (Refused noMeaning) at w (omega (arith, m), m) (omega arith, omega arith)
+    either (Within at w) (allZero s (at + beforeZero s at w) (w - beforeZero s at w)) _ _ (omega (arith, m), m)
+    (omega arith, omega arith)
 value-within Kin.Date s at w = date-within (signedAt s at w) at w
 value-within Kin.Short s at w = (omega arith, omega arith)
 value-within Kin.Long s at w = (omega arith, omega arith)
 value-within Kin.Number s at w =
-    within-if (finite (doubleAt s at w)) (Is (Val.Number (doubleAt s at w))) (Refused noMeaning) at w
-    (omega arith, omega arith) (omega arith, omega arith)
+    either (Within at w) (finite (doubleAt s at w)) _ _ (omega arith, omega arith) (omega arith, omega arith)
 value-within Kin.Logical s at w =
-    within-if (eqb (big s at w) falseByte) (Is (Val.Logical false))
-    (cond (eqb (big s at w) trueByte) (Is (Val.Logical true)) (Refused noMeaning)) at w (omega arith, omega arith)
-    (within-if (eqb (big s at w) trueByte) (Is (Val.Logical true)) (Refused noMeaning) at w (omega arith, omega arith)
-    (omega arith, omega arith))
+    either (Within at w) (eqb (big s at w) falseByte) _ _ (omega arith, omega arith)
+    (either (Within at w) (eqb (big s at w) trueByte) _ _ (omega arith, omega arith) (omega arith, omega arith))
 value-within Kin.Blob s at w = (omega arith, omega arith)
 
 -- a text is within its cell
-cell-within : (kind : FieldKind) (s : List ℕ) (at w : ℕ) → Within (cellAt kind s at w) at w
+cell-within : (kind : FieldKind) (s : List ℕ) (at w : ℕ) → Within at w (cellAt kind s at w)
 unfolding cellAt partOf valuePart
 cell-within kind s at w =
-    within-if (not (isBlob kind) && allZero s at w) (Is Val.Blank) (valueAt kind s at w) at w (omega arith, omega arith)
-    (value-within kind s at w)
+    either (Within at w) (not (isBlob kind) && allZero s at w) _ _ (omega arith, omega arith) (value-within kind s at w)
 
 stands-within : {t : List ℕ} {h : Header} {b p f : ℕ} {v : Value} (s : Stands t h b p f v) →
-    Within (Is v) (s .at) (s .width)
-stands-within {t} s =
-    subst (λ (c : Cell). Within c (s .at) (s .width)) (s .means) (cell-within (s .kind) t (s .at) (s .width))
+    Within (s .at) (s .width) (Is v)
+stands-within {t} s = subst (Within (s .at) (s .width)) (s .means) (cell-within (s .kind) t (s .at) (s .width))
 
 -- a field is at most 255 bytes wide
 wide-most : (kind : FieldKind) (w : ℕ) → Permitted kind w → w ≤ 255

@@ -75,8 +75,8 @@ module _ (s : List ℕ) (at w l : ℕ) where
   text-is e = rw e
 
 -- a number that was read in w bytes is below that power
-pub number-below : (s : List ℕ) (at w v : ℕ) → Bytes s → (n : ℕ) → w ≡ v → n ≡ big s at w → n < 256 ^ v
-number-below s at w v bytes n e f = rw (f, ← e) (big-lt s at w bytes)
+pub number-below : (s : List ℕ) (at w : ℕ) → Bytes s → (n : ℕ) → n ≡ big s at w → n < 256 ^ w
+number-below s at w bytes n f = rw f (big-lt s at w bytes)
 
 -- ---- a cell, by its kind
 
@@ -113,41 +113,41 @@ module _ (s : List ℕ) (at w : ℕ) (z : allZero s at w ≡ false) where
   unfolding valueAt
   cell-text = cell-value Kin.Text s at w z
 
-  pub cell-date : Permitted Kin.Date w → (n : ℕ) → n ≡ big s at w
+  pub cell-date : Permitted Kin.Date w → (n : ℕ) → n ≡ big s at 4
       → dateCell (signed (half 4) (complemented (half 4) n)) ≡ cellAt Kin.Date s at w
   unfolding Permitted valueAt
   cell-date p n f =
       rw f
-      (ap (λ (v : ℕ). dateCell (signed (half v) (complemented (half v) (big s at w)))) (sym p)
+      (ap (λ (v : ℕ). dateCell (signed (half v) (complemented (half v) (big s at v)))) (sym p)
       ∙ cell-value Kin.Date s at w z)
 
-  pub cell-short : Permitted Kin.Short w → (n : ℕ) → n ≡ big s at w
+  pub cell-short : Permitted Kin.Short w → (n : ℕ) → n ≡ big s at 2
       → Is (Val.Short (signed (half 2) (complemented (half 2) n))) ≡ cellAt Kin.Short s at w
   unfolding Permitted valueAt
   cell-short p n f =
       rw f
-      (ap {B = Cell} (λ (v : ℕ). Is (Val.Short (signed (half v) (complemented (half v) (big s at w))))) (sym p)
+      (ap {B = Cell} (λ (v : ℕ). Is (Val.Short (signed (half v) (complemented (half v) (big s at v))))) (sym p)
       ∙ cell-value Kin.Short s at w z)
 
-  pub cell-long : Permitted Kin.Long w → (n : ℕ) → n ≡ big s at w
+  pub cell-long : Permitted Kin.Long w → (n : ℕ) → n ≡ big s at 4
       → Is (Val.Long (signed (half 4) (complemented (half 4) n))) ≡ cellAt Kin.Long s at w
   unfolding Permitted valueAt
   cell-long p n f =
       rw f
-      (ap {B = Cell} (λ (v : ℕ). Is (Val.Long (signed (half v) (complemented (half v) (big s at w))))) (sym p)
+      (ap {B = Cell} (λ (v : ℕ). Is (Val.Long (signed (half v) (complemented (half v) (big s at v))))) (sym p)
       ∙ cell-value Kin.Long s at w z)
 
-  pub cell-number : Permitted Kin.Number w → (n : ℕ) → n ≡ big s at w
+  pub cell-number : Permitted Kin.Number w → (n : ℕ) → n ≡ big s at 8
       → numberCell (ofBits binary64 (complemented (half 8) n)) ≡ cellAt Kin.Number s at w
   unfolding Permitted valueAt
   cell-number p n f =
       rw f
-      (ap (λ (v : ℕ). numberCell (ofBits binary64 (complemented (half v) (big s at w)))) (sym p)
+      (ap (λ (v : ℕ). numberCell (ofBits binary64 (complemented (half v) (big s at v)))) (sym p)
       ∙ cell-value Kin.Number s at w z)
 
-  pub cell-logical : (n : ℕ) → n ≡ big s at w → logicalCell n ≡ cellAt Kin.Logical s at w
-  unfolding valueAt
-  cell-logical n f = rw f (cell-value Kin.Logical s at w z)
+  pub cell-logical : Permitted Kin.Logical w → (n : ℕ) → n ≡ big s at 1 → logicalCell n ≡ cellAt Kin.Logical s at w
+  unfolding Permitted valueAt
+  cell-logical p n f = rw f (ap (λ (v : ℕ). logicalCell (big s at v)) (sym p) ∙ cell-value Kin.Logical s at w z)
 
 -- ---- by block, place and field
 

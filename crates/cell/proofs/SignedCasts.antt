@@ -2,7 +2,7 @@
 -- the width. Assumes nothing.
 use mathlib.Core.Path.{_≡_, refl, sym}
 use mathlib.Core.Logic.{⊎-elim}
-use Prim.Native.Nat.{ℕ, suc, _+_, _-_, _^_, _≤_, _<_}
+use Prim.Native.Nat.{ℕ, suc, _+_, _^_, _≤_, _<_}
 use native.Mathlib.Omega.{arith}
 use lib.Arith.{lt-of-le-ne}
 use lib.IntN.{ℤ, pos, negsuc, _-ℤ_, _+ℤ_}
@@ -12,7 +12,7 @@ use mir.Val.{Fits, SFits, toZ, ofZ, hbits, bits}
 use mir.ValLaws.{toZ-ofZ, toZ-pos}
 use borrow.Author.Tests.{lt-ltb, le-ltb}
 use Rattle.words.specs.Numbers.{digits}
-use Rattle.words.specs.Signed.{half, complemented, signed}
+use Rattle.words.specs.Signed.{half, complemented, signed, shifted}
 use Rattle.words.proofs.Cases.{lt-or-ge}
 use Rattle.words.proofs.SignedLaws.{less-below, less-from, signed-complemented, signed-below, signed-from}
 use Rattle.cell.specs.Writing.{signedForm, none, bytes}
@@ -59,16 +59,11 @@ module _ (w : Width) (n top : ℕ) (small : n < top + top) (half : 2 ^ hbits w �
 
 -- ---- writing: z and the top bit added
 
--- the number that this is
-abbrev pub shift : ℕ → ℤ → ℕ
-shift top (pos m) = m + top
-shift top (negsuc m) = top - suc m
-
-plus-is : (z : ℤ) (top : ℕ) → mag z < top → z +ℤ pos top ≡ pos (shift top z)
+plus-is : (z : ℤ) (top : ℕ) → mag z < top → z +ℤ pos top ≡ pos (shifted top z)
 plus-is (pos m) top h = refl
 plus-is (negsuc m) top h = rw (le-ltb top (suc m) h)
 
-shift-lt : (z : ℤ) (top : ℕ) → mag z < top → shift top z < top + top
+shift-lt : (z : ℤ) (top : ℕ) → mag z < top → shifted top z < top + top
 shift-lt (pos m) top h = omega arith
 shift-lt (negsuc m) top h = omega arith
 
@@ -83,19 +78,19 @@ module _ (w : Width) (z : ℤ) (top : ℕ) (fits : SFits w z) (half : 2 ^ hbits 
   pub wide-fits : SFits w64 (toZ w (ofZ w z))
   wide-fits = rw widened fits-wide
 
-  sum-is : toZ w64 (ofZ w64 (toZ w (ofZ w z))) +ℤ pos top ≡ pos (shift top z)
+  sum-is : toZ w64 (ofZ w64 (toZ w (ofZ w z))) +ℤ pos top ≡ pos (shifted top z)
   sum-is = rw (widened, toZ-ofZ w64 z fits-wide) (plus-is z top (omega (arith, fits .sfits)))
 
-  sum-small : SFits w64 (pos (shift top z))
+  sum-small : SFits w64 (pos (shifted top z))
   sum-small = record { sfits = omega (arith, shift-lt z top (omega (arith, fits .sfits))) }
 
   pub sum-fits : SFits w64 (toZ w64 (ofZ w64 (toZ w (ofZ w z))) +ℤ pos top)
   sum-fits = rw sum-is sum-small
 
-  pub total : toZ w64 (ofZ w64 (toZ w64 (ofZ w64 (toZ w (ofZ w z))) +ℤ pos top)) ≡ pos (shift top z)
-  total = rw sum-is (toZ-ofZ w64 (pos (shift top z)) sum-small)
+  pub total : toZ w64 (ofZ w64 (toZ w64 (ofZ w64 (toZ w (ofZ w z))) +ℤ pos top)) ≡ pos (shifted top z)
+  total = rw sum-is (toZ-ofZ w64 (pos (shifted top z)) sum-small)
 
-  pub total-fits : Fits w64 (shift top z)
+  pub total-fits : Fits w64 (shifted top z)
   total-fits = record { fits = omega (arith, shift-lt z top (omega (arith, fits .sfits))) }
 
 -- the stored form in v bytes, by the bits of z: minus the top bit has none
@@ -107,7 +102,7 @@ form-none w v (negsuc m) top s h k same e = rw (same, le-ltb (suc m) top (omega 
 
 pub form-is : (w : Width) (v : ℕ) (z : ℤ) (top : ℕ) → SFits w z → 2 ^ hbits w ≡ top → 2 ^ bits w ≡ top + top
     → half v ≡ top → (ofZ w z ≡ top → ⊥)
-    → bytes (digits v (shift top z)) ≡ signedForm v z
+    → bytes (digits v (shifted top z)) ≡ signedForm v z
 unfolding signedForm
 form-is w v (pos m) top s h k same e = rw (same, lt-ltb m top (omega (arith, s .sfits)))
 form-is w v (negsuc m) top s h k same e =

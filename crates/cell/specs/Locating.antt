@@ -3,7 +3,7 @@
 use Prim.Native.Nat.{ℕ, _+_, _-_, _*_, _≤_}
 use mathlib.Core.Path.{_≡_}
 use mathlib.Core.Bool.{cond}
-use mathlib.Core.List.{List}
+use mathlib.Core.List.{List, [], _∷_}
 use lib.Dec.{ltb}
 use lib.ListN.{length}
 use Rattle.words.specs.Numbers.{byte}
@@ -41,6 +41,10 @@ placeWith g b p offset (Records n) = cond (ltb p n) (At (recordAt g b p + offset
 -- where the cell at this offset of the record at a block and place begins
 unfoldable pub placeAt : List ℕ → Shape → ℕ → ℕ → ℕ → Place
 placeAt t g b p offset = placeWith g b p offset (countIn t g b)
+
+-- what both steps refuse with
+abbrev pub placeRefusals : List ℕ
+placeRefusals = badArgument ∷ wrongCount ∷ []
 
 -- ---- what both steps give
 

@@ -2,7 +2,7 @@
 use Prim.Native.Nat.{ℕ, _+_, _-_}
 use mathlib.Core.Path.{_≡_}
 use mathlib.Core.Bool.{Bool, true, false, cond, not, _&&_}
-use mathlib.Core.List.{List}
+use mathlib.Core.List.{List, [], _∷_, _++_}
 use lib.Dec.{eqb, leb}
 use lib.IntN.{ℤ, pos, negsuc}
 use lib.Ieee.{Float, binary64, ofBits}
@@ -22,7 +22,7 @@ use Rattle.header.specs.declared.field.Field.the-variants as Fie
 use Rattle.blocks.specs.Shape.{shapeOf}
 use Rattle.blocks.specs.declared.Shape.{Shape}
 use Rattle.cell.specs.Values.{Content, answerOf, partOf}
-use Rattle.cell.specs.Locating.{fieldAt, placeAt, Located}
+use Rattle.cell.specs.Locating.{fieldAt, placeAt, placeRefusals, Located}
 use Rattle.cell.specs.declared.value.Value.{Value}
 use Rattle.cell.specs.declared.value.Value.the-variants as Val
 use Rattle.cell.specs.declared.value.Cell.{Cell}
@@ -106,6 +106,10 @@ fieldCell t g b p Fie.Missing = Refused badArgument
 -- step 1, step 2, then the bytes
 unfoldable pub blockCell : List ℕ → Header → ℕ → ℕ → ℕ → Cell
 blockCell t h b p f = fieldCell t (shapeOf h) b p (fieldAt t h b f)
+
+-- what they refuse with
+abbrev pub cellRefusals : List ℕ
+cellRefusals = placeRefusals ++ blobCell ∷ noMeaning ∷ []
 
 -- 1 to 7 first, for any bytes and any numbers
 unfoldable pub cellOf : List ℕ → ℕ → ℕ → ℕ → Cell

@@ -82,7 +82,3 @@ valuePart (Val.Text start len) = record { start = start; len = len }
 unfoldable pub partOf : Cell → Part
 partOf (Cel.Is v) = valuePart v
 partOf (Cel.Refused n) = noPart
-
--- the address so many bytes behind another
-abbrev pub behind : ℕ × ℕ → ℕ → ℕ × ℕ
-behind address n = (address .0, n + address .1)

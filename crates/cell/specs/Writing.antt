@@ -1,7 +1,7 @@
 -- Which bytes a value has in a cell, and what writing it answers. Definitions only.
 use Prim.Native.Nat.{ℕ, suc, _+_, _-_}
 use mathlib.Core.Bool.{Bool, true, false, cond, not, _&&_}
-use mathlib.Core.List.{List, _++_}
+use mathlib.Core.List.{List, [], _∷_, _++_}
 use lib.Dec.{eqb, leb, ltb}
 use lib.IntN.{ℤ, pos, negsuc}
 use lib.Ieee.{Float, nan, inf, fin, binary64, toBits}
@@ -114,6 +114,10 @@ writeStored (Kind kind) w c buffer = writeKind kind w c buffer
 -- the answer and the whole buffer after it: 13, 12, 14, 11 in that order, and a refusal leaves the buffer as it was
 unfoldable pub writeOf : ℕ → ℕ → Content → List ℕ → ℕ × List ℕ
 writeOf code w c buffer = writeStored (kindOf code w) w c buffer
+
+-- what writing refuses with
+abbrev pub writeRefusals : List ℕ
+writeRefusals = badArgument ∷ blobCell ∷ shortBuffer ∷ noMeaning ∷ []
 
 -- the same of a Value, whose text is a part of lent bytes
 abbrev pub writtenOf : ℕ → ℕ → List ℕ → Value → List ℕ → ℕ × List ℕ

@@ -1,5 +1,5 @@
 // What the bytes of a cell mean, kind by kind.
-// The module is private: its functions are helpers of `cell::read_in`, which meets what they require.
+// Its functions are helpers of `cell::read_in`, `cell_at` also of the crates above, which meet what they require.
 ghost use mathlib.Core.Path.{_≡_};
 ghost use Prim.Native.Nat.{_+_, _≤_, _<_};
 ghost use lib.Ieee.{binary64, ofBits};
@@ -85,8 +85,8 @@ fn text_at(t: &[u8], at: usize, width: usize) -> Cell
     Cell::Is(Value::Text { start: at, len })
 }
 
-// The meaning of the `width` bytes at `at`. A helper of `read_in`, which has found the cell in the table. The
-// last arm is not reached: blobs are refused first.
+// The meaning of the `width` bytes at `at`. A helper: its caller has found the cell in the table. The last arm is not
+// reached: blobs are refused first.
 pub fn cell_at(t: &[u8], kind: FieldKind, at: usize, width: usize) -> Cell
     requires { ⌜ Permitted kind width × (at + width ≤ length (now t)) ⌝ }
     ensures { λ r. ⌜ r ≡ cellAt kind (now (t .entry)) at width ⌝ }
@@ -99,11 +99,19 @@ pub fn cell_at(t: &[u8], kind: FieldKind, at: usize, width: usize) -> Cell
     }
     match kind {
         FieldKind::Text => text_at(t, at, width),
-        FieldKind::Date => date_of(words::number(t, at, width)),
-        FieldKind::Short => Cell::Is(Value::Short(short_of(words::number(t, at, width)))),
-        FieldKind::Long => Cell::Is(Value::Long(long_of(words::number(t, at, width)))),
-        FieldKind::Number => number_of(words::number(t, at, width)),
-        FieldKind::Logical => logical_of(words::number(t, at, width)),
+        FieldKind::Date => date_of(words::number(t, at, FieldKind::DATE_WIDTH)),
+        FieldKind::Short => Cell::Is(Value::Short(short_of(words::number(
+            t,
+            at,
+            FieldKind::SHORT_WIDTH,
+        )))),
+        FieldKind::Long => Cell::Is(Value::Long(long_of(words::number(
+            t,
+            at,
+            FieldKind::LONG_WIDTH,
+        )))),
+        FieldKind::Number => number_of(words::number(t, at, FieldKind::NUMBER_WIDTH)),
+        FieldKind::Logical => logical_of(words::number(t, at, FieldKind::LOGICAL_WIDTH)),
         FieldKind::Blob => Cell::Refused(refusal::BLOB_CELL),
     }
 }

@@ -8,6 +8,7 @@ ghost use Rattle.cell.specs.Writing.{bytes, dateForm, numberForm, signed
 ghost use Rattle.cell.specs.Steps.{codedForm};
 use crate::double;
 use crate::limits;
+use crate::signed;
 
 // The number that a cell stores for a value, where there is one.
 pub enum Coded {
@@ -22,7 +23,7 @@ pub fn short_form(z: i16) -> Coded
     if z == limits::LEAST_SHORT {
         return Coded::None;
     }
-    Coded::Number((z as i64 + limits::SHORT_TOP) as u64)
+    Coded::Number(signed::shifted_short(z))
 }
 
 // A long, in the same way.
@@ -32,7 +33,7 @@ pub fn long_form(z: i32) -> Coded
     if z == limits::LEAST_LONG {
         return Coded::None;
     }
-    Coded::Number((z as i64 + limits::LONG_TOP) as u64)
+    Coded::Number(signed::shifted_long(z))
 }
 
 // A date: a day from LEAST_DATE to MOST_DATE, stored as a long.

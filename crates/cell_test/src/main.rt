@@ -1,28 +1,15 @@
-// Cells read, refused, written and read back, and printed. The bytes are written by hand from document 01.
+// Cells read, refused and written. The tables and values are in the file `stdin`, written from document 01.
 // Its functions are proved safe and promise nothing more: what they print is compared with the file `stdout`.
-mod codes;
-mod columns;
-mod counts;
-mod early;
-mod print;
-mod reads;
-mod refusals;
-mod rooms;
-mod table;
-mod trips;
+mod cases;
+mod cells;
+mod records;
 mod values;
 mod written;
 
-// The largest usize: no block, place, field, width or part of this number.
-const HUGE: usize = 18446744073709551615;
+use libc::STDIN_FILENO;
 
 fn main() {
-    counts::run();
-    reads::run();
-    refusals::run();
-    early::run();
-    values::run();
-    codes::run();
-    rooms::run();
-    trips::run();
+    let mut text = io::large_buffer();
+    let n = io::read_full(STDIN_FILENO, &mut text);
+    cases::run(&text[..n]);
 }

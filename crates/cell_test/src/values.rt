@@ -1,129 +1,57 @@
-// Values written as their own kind: ordinary ones, both ends, and what has no stored form.
-use crate::HUGE;
-use crate::written::case;
-use crate::written::case_of;
-use crate::written::text;
+// The values that are written. Their bytes stand in the cases' buffer from 7000 on, the high byte first.
+ghost use Prim.Native.Nat.{_<_};
 use cell::Value;
+use test_lines::lines::Buffer;
 
-fn short(z: i16) {
-    case(0x03, 2, Value::Short(z), 12);
+pub const VALUE: usize = 0x7000;
+
+// Eight bytes are read as one number. Divided by these it is the number of the first two, and of the first four.
+const TWO: u64 = 0x0001_0000_0000_0000;
+
+const FOUR: u64 = 0x0000_0001_0000_0000;
+
+// The top bit of a double, and the bits of an infinity without it.
+const TOP: u64 = 0x8000_0000_0000_0000;
+
+const INFINITE: u64 = 0x7ff0_0000_0000_0000;
+
+// The number n - 32768.
+fn short_of(n: u64) -> i16
+    requires { ⌜ n < 65536 ⌝ }
+{
+    (n as i64 - 32768) as i16
 }
 
-fn shorts() {
-    short(1);
-    short(512);
-    short(-1);
-    short(12);
-    short(0);
-    short(32767);
-    short(-32767);
-    short(-32768);
+// The number n - 2147483648.
+fn long_of(n: u64) -> i32
+    requires { ⌜ n < 4294967296 ⌝ }
+{
+    (n as i64 - 2147483648) as i32
 }
 
-fn long(z: i32) {
-    case(0x04, 4, Value::Long(z), 12);
+// The double of some bits. There is one not-a-number, whatever its bits.
+fn double_of(bits: u64) -> f64 {
+    if INFINITE < bits % TOP {
+        let zero = 0.0;
+        return zero / zero;
+    }
+    f64::from_bits(bits)
 }
 
-fn longs() {
-    long(1);
-    long(512);
-    long(-1);
-    long(0);
-    long(-32768);
-    long(2147483647);
-    long(-2147483647);
-    long(-2147483648);
-}
-
-fn date(day: u32) {
-    case(0x02, 4, Value::Date(day), 12);
-}
-
-fn dates() {
-    date(728783);
-    date(36159);
-    date(36160);
-    date(3652059);
-    date(3652060);
-    date(0);
-    date(1);
-    date(2147519808);
-    date(4294967295);
-}
-
-fn double(code: u8, x: f64) {
-    case(code, 8, Value::Number(x), 12);
-}
-
-// Zeros, both ends, and what has no stored form.
-fn doubles(code: u8) {
-    double(code, 1.0);
-    double(code, -1.0);
-    double(code, 12.34);
-    double(code, 0.0);
-    double(code, -0.0);
-    double(code, 5e-324);
-    double(code, -5e-324);
-    double(code, 2.225073858507201e-308);
-    double(code, 2.2250738585072014e-308);
-    double(code, 1.7976931348623157e308);
-    double(code, -1.7976931348623157e308);
-    double(code, 1.0 / 0.0);
-    double(code, -1.0 / 0.0);
-    double(code, 1e300 * 1e300);
-    double(code, nan());
-}
-
-// 0 by 0 has no number.
-pub fn nan() -> f64 {
-    let zero = 0.0;
-    zero / zero
-}
-
-fn logicals() {
-    case(0x09, 1, Value::Logical(false), 12);
-    case(0x09, 1, Value::Logical(true), 12);
-}
-
-// Texts that have a form, and those that are empty, too long, or have a zero in them.
-fn texts() {
-    text(5, 0, 3, 12);
-    text(3, 4, 3, 12);
-    text(12, 4, 3, 12);
-    text(1, 4, 1, 12);
-    text(2, 4, 3, 12);
-    text(5, 0, 0, 12);
-    text(5, 7, 0, 12);
-    text(5, 0, 4, 12);
-    text(5, 3, 1, 12);
-    text(5, 3, 4, 12);
-    text(5, 2, 3, 12);
-    text(7, 0, 7, 12);
-    text(2, 0, 4, 12);
-}
-
-// Texts that are no part of the seven bytes lent.
-fn parts() {
-    text(5, 8, 0, 12);
-    text(5, 0, 8, 12);
-    text(5, 5, 3, 12);
-    text(5, 7, 1, 12);
-    text(5, HUGE, 0, 12);
-    text(5, HUGE, 1, 12);
-    text(5, 1, HUGE, 12);
-    text(5, HUGE, HUGE, 12);
-    text(5, 8, 0, 4);
-    case_of(0x01, 5, Value::Text { start: 0, len: 0 }, b"", 12);
-    case_of(0x01, 5, Value::Text { start: 0, len: 1 }, b"", 12);
-}
-
-pub fn run() {
-    shorts();
-    longs();
-    dates();
-    doubles(0x05);
-    doubles(0x06);
-    logicals();
-    texts();
-    parts();
+// The value that a command names. Shorts and longs are stored in two's complement.
+pub fn value_of(t: &Buffer, command: u8) -> Value {
+    let n = words::number(t, VALUE, 8);
+    match command {
+        b'S' => Value::Short(short_of((n / TWO + 32768) % 65536)),
+        b'L' => Value::Long(long_of((n / FOUR + 2147483648) % 4294967296)),
+        b'D' => Value::Date((n / FOUR) as u32),
+        b'N' => Value::Number(double_of(n)),
+        b'F' => Value::Logical(false),
+        b'T' => Value::Logical(true),
+        b'P' => Value::Text {
+            start: (n / TWO) as usize,
+            len: (n / FOUR % 65536) as usize,
+        },
+        _ => Value::Blank,
+    }
 }

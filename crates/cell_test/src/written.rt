@@ -1,63 +1,47 @@
-// One value written and printed: the code, the width, the value, the buffer's length, the answer, and
-// what stands in the whole buffer, which held AA.
+// A value written into a lent buffer: the answer and the whole buffer afterwards, ` 0:8001aaaa`.
 ghost use Prim.Native.Nat.{_≤_};
 ghost use lib.ListN.{length};
-use crate::print::byte;
-use crate::print::bytes;
-use crate::print::number;
-use crate::print::say;
-use crate::print::size;
-use crate::print::value;
+use crate::values::value_of;
 use cell::Value;
+use test_lines::lines::Buffer;
+use test_lines::lines::Line;
+use test_lines::lines::behind;
+use test_lines::lines::part;
+use test_lines::print::bytes;
+use test_lines::print::decimal;
+use test_lines::print::letter;
 
-// The line up to the answer.
-pub fn head(code: u8, width: usize, v: Value, room: usize) {
-    say(b"write ");
-    byte(code);
-    say(b" ");
-    size(width);
-    say(b" ");
-    value(v);
-    say(b" into ");
-    size(room);
-    say(b": ");
-}
+// Where the bytes lent for a text stand.
+const TEXT: usize = 0x7100;
 
-// The answer, and the whole buffer.
-pub fn result(answer: u8, b: &[u8]) {
-    number(answer as u64);
-    say(b" ");
-    bytes(b);
-    say(b"\n");
-}
+// The longest buffer that can be lent.
+const LONGEST: usize = 256;
 
-// Writes into the first `room` bytes of a buffer.
-fn write_first(code: u8, width: usize, v: Value, lent: &[u8], b: &mut [u8], room: usize) -> u8
-    requires { ⌜ room ≤ length (now b) ⌝ }
+// Writes into the first bytes of a buffer, which has as many.
+fn write_first(code: u8, width: usize, v: Value, text: &[u8], buffer: &mut [u8], most: usize) -> u8
+    requires { ⌜ most ≤ length (now buffer) ⌝ }
 {
-    cell::write(code, width, v, lent, &mut b[0..room])
+    cell::write(code, width, v, text, &mut buffer[..most])
 }
 
-// The same for a buffer of 12, printed. A text is a part of `lent`.
-pub fn case_of(code: u8, width: usize, v: Value, lent: &[u8], room: usize)
-    requires { ⌜ room ≤ 12 ⌝ }
-{
-    head(code, width, v, room);
-    let mut b = [0xaau8; 12];
-    let answer = write_first(code, width, v, lent, &mut b, room);
-    result(answer, &b);
+fn print(answer: u8, buffer: &[u8]) {
+    letter(b' ');
+    decimal(answer as u64);
+    letter(b':');
+    bytes(buffer);
 }
 
-// The same with seven bytes lent for a text.
-pub fn case(code: u8, width: usize, v: Value, room: usize)
-    requires { ⌜ room ≤ 12 ⌝ }
-{
-    case_of(code, width, v, b"cog\0nut", room);
-}
-
-// A text: a part of those seven bytes.
-pub fn text(width: usize, start: usize, len: usize, room: usize)
-    requires { ⌜ room ≤ 12 ⌝ }
-{
-    case(0x01, width, Value::Text { start, len }, room);
+// Writes the value that the line's command names, with the code and the width before it. A buffer of more bytes than
+// there are cannot be lent.
+pub fn write(t: &Buffer, line: Line) {
+    let most = line.marks;
+    if LONGEST < most {
+        return;
+    }
+    let code = (line.first % 256) as u8;
+    let v = value_of(t, line.command);
+    let text = part(behind(t, TEXT), line.index);
+    let mut buffer = [line.fill; LONGEST];
+    let answer = write_first(code, line.second, v, text, &mut buffer, most);
+    print(answer, part(&buffer, most));
 }

@@ -3,25 +3,27 @@
 -- nothing.
 use Prim.Native.Nat.{ℕ, zero, suc, _+_, _-_, _≤_, _<_}
 use mathlib.Core.Path.{_≡_, refl}
-use mathlib.Core.Bool.{Bool, true, false, cond}
-use mathlib.Core.List.{List}
+use mathlib.Core.Bool.{Bool, true, false}
+use mathlib.Core.List.{List, _++_}
 use mathlib.Core.Logic.{⊎-elim}
 use native.Mathlib.Numerals.{add-one}
 use native.Mathlib.Omega.{arith}
 use lib.Dec.{eqb}
 use borrow.Author.Tests.{eqb-true, eqb-false}
-use Rattle.words.proofs.Cases.{lt-or-ge}
+use Rattle.words.proofs.Cases.{lt-or-ge, either}
 use Rattle.header.specs.Header.{headerRefusal}
 use Rattle.header.specs.Numbers.{numbersOf}
+use Rattle.header.proofs.RefusalLaws.{one-of-front, one-of-back}
 use Rattle.header.proofs.AcceptedLaws.{first-holds}
-use Rattle.header.specs.Refusals.{chainRule, wrongCount, badArgument}
+use Rattle.header.specs.Refusals.{chainRule, wrongCount, badArgument, oneOf, headerRefusals}
 use Rattle.blocks.specs.Shape.{shapeOf}
 use Rattle.blocks.specs.Counts.{countIn}
 use Rattle.blocks.specs.declared.Shape.{Shape}
 use Rattle.blocks.specs.declared.count.Count.{Count}
 use Rattle.blocks.specs.declared.count.Count.the-variants.{Records, Bad}
 use Rattle.chain.specs.Links.{nextOf}
-use Rattle.cursor.specs.Cursor.{atEnd, standing, inReach, firstFrom, startOf, stepIn, stepOf, startIn}
+use Rattle.cursor.specs.Cursor.{atEnd, standing, inReach, firstFrom, startIn, startOf, stepIn, stepOf}
+use Rattle.cursor.specs.Cursor.{startRefusals, stepRefusals}
 use Rattle.cursor.specs.Rules.{OnRecord, Answered, found, over, refusing, After, next-place, more-moves}
 use Rattle.cursor.specs.declared.Cursor.{Cursor}
 use Rattle.cursor.specs.declared.Step.{Step}
@@ -98,19 +100,16 @@ module _ (t : List ℕ) (g : Shape) where
 
 -- 1 to 7 come first
 module _ (t : List ℕ) (Holds : Step → Type 0) where
-  start-holds : ((n : ℕ) → 1 ≤ n → Holds (Refused n atEnd)) →
+  start-holds : ((n : ℕ) → oneOf headerRefusals n ≡ true → Holds (Refused n atEnd)) →
       Holds (firstFrom t (shapeOf (numbersOf t)) atEnd 0 (numbersOf t .first)) → Holds (startOf t)
   unfolding startOf startIn
   start-holds refused from = first-holds t (λ (n : ℕ). Refused n atEnd) _ Holds refused (λ a. from)
 
-  step-holds : (c : Cursor) → ((n : ℕ) → 1 ≤ n → Holds (Refused n c)) → Holds (End atEnd) →
+  step-holds : (c : Cursor) → ((n : ℕ) → oneOf headerRefusals n ≡ true → Holds (Refused n c)) → Holds (End atEnd) →
       Holds (stepIn t (shapeOf (numbersOf t)) c) → Holds (stepOf t c)
   unfolding stepOf
-  step-holds c refused at-end goes = first-holds t (λ (n : ℕ). Refused n c) _ Holds refused (λ a. by-end (c .ended))
-    where
-      by-end : (b : Bool) → Holds (cond b (End atEnd) (stepIn t (shapeOf (numbersOf t)) c))
-      by-end true = at-end
-      by-end false = goes
+  step-holds c refused at-end goes =
+      first-holds t (λ (n : ℕ). Refused n c) _ Holds refused (λ a. either Holds (c .ended) _ _ at-end goes)
 
 -- ---- an answer is a record, the end, or a refusal
 
@@ -129,26 +128,42 @@ module _ (t : List ℕ) (g : Shape) where
         there = l;
       }
 
-  from-answers : (back : Cursor) (moves b : ℕ) → Answered t g back (firstFrom t g back moves b)
-  from-answers back moves b =
-      from-holds t g back 0 (Answered t g back) over (refusing {n = chainRule} (omega arith))
-      (refusing {n = wrongCount} (omega arith))
-      (λ b m n l e k. found (on-record b 0 m e (suc n) k (omega arith)))
-      moves b (omega arith)
+  -- with refusals of its own behind 1 to 7
+  module _ (own : List ℕ) (back : Cursor) where
+    abbrev Right : Step → Type 0
+    Right = Answered (headerRefusals ++ own) t g back
 
-pub start-answers : (t : List ℕ) → Answered t (shapeOf (numbersOf t)) atEnd (startOf t)
+    by-rules : (n : ℕ) → oneOf headerRefusals n ≡ true → Right (Refused n back)
+    by-rules n w = refusing (one-of-front n headerRefusals own w)
+
+    by-own : (n : ℕ) → oneOf own n ≡ true → Right (Refused n back)
+    by-own n w = refusing (one-of-back n headerRefusals own w)
+
+    from-answers : oneOf own chainRule ≡ true → oneOf own wrongCount ≡ true → (moves b : ℕ) →
+        Right (firstFrom t g back moves b)
+    from-answers outside bad moves b =
+        from-holds t g back 0 Right over (by-own chainRule outside) (by-own wrongCount bad)
+        (λ b m n l e k. found (on-record b 0 m e (suc n) k (omega arith)))
+        moves b (omega arith)
+
+pub start-answers : (t : List ℕ) →
+    Answered (headerRefusals ++ startRefusals) t (shapeOf (numbersOf t)) atEnd (startOf t)
+unfolding oneOf
 start-answers t =
     let g = shapeOf (numbersOf t) in
-    start-holds t (Answered t g atEnd) (λ n l. refusing l) (from-answers t g atEnd 0 (numbersOf t .first))
+    start-holds t (Right t g startRefusals atEnd) (by-rules t g startRefusals atEnd)
+    (from-answers t g startRefusals atEnd refl refl 0 (numbersOf t .first))
 
-pub step-answers : (t : List ℕ) (c : Cursor) → Answered t (shapeOf (numbersOf t)) c (stepOf t c)
+pub step-answers : (t : List ℕ) (c : Cursor) →
+    Answered (headerRefusals ++ stepRefusals) t (shapeOf (numbersOf t)) c (stepOf t c)
+unfolding oneOf
 step-answers t c =
     let g = shapeOf (numbersOf t) in
-    step-holds t (Answered t g c) c (λ n l. refusing l) over
-    (in-holds t g c (Answered t g c) (refusing {n = badArgument} (omega arith))
-    (refusing {n = wrongCount} (omega arith))
+    step-holds t (Right t g stepRefusals c) c (by-rules t g stepRefusals c) over
+    (in-holds t g c (Right t g stepRefusals c) (by-own t g stepRefusals c badArgument refl)
+    (by-own t g stepRefusals c wrongCount refl)
     (λ n e k m. found (on-record t g (c .block) (c .place + 1) (c .moves) e n k m))
-    (from-answers t g c (c .moves + 1) (nextOf t g (c .block))))
+    (from-answers t g stepRefusals c refl refl (c .moves + 1) (nextOf t g (c .block))))
 
 -- ---- a record comes after the one before it
 

@@ -23,7 +23,7 @@ module _ (t : List ℕ) where
   g = shapeOf (numbersOf t)
 
   -- an answer ends where every record that it may be does
-  answer-ends : (back : Cursor) (s : Step) → Answered t g back s →
+  answer-ends : {refusals : List ℕ} (back : Cursor) (s : Step) → Answered refusals t g back s →
       ((d : Cursor) → s ≡ Record d → OnRecord t g d → Ends t (Record d)) → Ends t s
   answer-ends back (Record c) (found r) h = h c refl r
   answer-ends back (End c) a h = by-end

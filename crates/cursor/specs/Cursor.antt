@@ -2,7 +2,7 @@
 -- only.
 use Prim.Native.Nat.{ℕ, zero, suc, _-_}
 use mathlib.Core.Bool.{Bool, true, false, cond, _&&_}
-use mathlib.Core.List.{List}
+use mathlib.Core.List.{List, [], _∷_}
 use lib.Dec.{eqb, ltb}
 use Rattle.header.specs.Refusals.{chainRule, wrongCount, badArgument}
 use Rattle.header.specs.Numbers.{numbersOf}
@@ -74,6 +74,10 @@ startIn t h = firstFrom t (shapeOf h) atEnd 0 (h .first)
 unfoldable pub startOf : List ℕ → Step
 startOf t = headerFirst t (λ (number : ℕ). Refused number atEnd) (startIn t (numbersOf t))
 
+-- what it refuses with after 1 to 7
+abbrev pub startRefusals : List ℕ
+startRefusals = chainRule ∷ wrongCount ∷ []
+
 -- ---- stepping: 1 to 7, then 13, 9, 13 for the cursor itself, then the next record. Refused, it comes back the same
 
 -- the record after the cursor's, by its block's count: in its block, or from the next number on; 9 for a bad count,
@@ -95,6 +99,10 @@ stepIn t g c = cond (inReach g (c .block) (c .moves)) (stepWith t g c (countIn t
 unfoldable pub stepOf : List ℕ → Cursor → Step
 stepOf t c =
     headerFirst t (λ (number : ℕ). Refused number c) (cond (c .ended) (End atEnd) (stepIn t (shapeOf (numbersOf t)) c))
+
+-- what it refuses with after 1 to 7
+abbrev pub stepRefusals : List ℕ
+stepRefusals = badArgument ∷ wrongCount ∷ chainRule ∷ []
 
 -- ---- both in document 01's numbers
 

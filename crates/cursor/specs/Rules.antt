@@ -1,8 +1,9 @@
 -- What starting and stepping come to, as plain propositions. Definitions only.
 use Prim.Native.Nat.{ℕ, suc, _≤_, _<_}
 use mathlib.Core.Path.{_≡_}
-use mathlib.Core.Bool.{false}
+use mathlib.Core.Bool.{true, false}
 use mathlib.Core.List.{List, [], _∷_}
+use Rattle.header.specs.Refusals.{oneOf}
 use Rattle.header.specs.declared.Header.{Header}
 use Rattle.blocks.specs.Shape.{shapeOf}
 use Rattle.blocks.specs.Counts.{countIn}
@@ -29,11 +30,12 @@ pub record OnRecord (t : List ℕ) (g : Shape) (c : Cursor) : Type 0 where
   pub counted : countIn t g (c .block) ≡ Records count
   pub there : c .place < count
 
--- an answer is a cursor on a record, the end with numbers 0, or a refusal with the cursor that is to be handed back
-pub data Answered (t : List ℕ) (g : Shape) (back : Cursor) : Step → Type 0 where
-  found : {c : Cursor} → OnRecord t g c → Answered t g back (Record c)
-  over : Answered t g back (End atEnd)
-  refusing : {n : ℕ} → 1 ≤ n → Answered t g back (Refused n back)
+-- an answer is a cursor on a record, the end with numbers 0, or one of these refusals with the cursor that is to be
+-- handed back
+pub data Answered (refusals t : List ℕ) (g : Shape) (back : Cursor) : Step → Type 0 where
+  found : {c : Cursor} → OnRecord t g c → Answered refusals t g back (Record c)
+  over : Answered refusals t g back (End atEnd)
+  refusing : {n : ℕ} → oneOf refusals n ≡ true → Answered refusals t g back (Refused n back)
 
 -- cursor d comes after cursor c: at the next place of the same block, or with more moves made
 pub data After (c d : Cursor) : Type 0 where

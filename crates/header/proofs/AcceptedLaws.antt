@@ -3,13 +3,14 @@
 use Prim.Native.Nat.{ℕ, zero, suc, _+_, _-_, _*_, _≤_, _<_}
 use mathlib.Core.Path.{_≡_, refl, sym, _∙_, ap}
 use mathlib.Core.Bool.{Bool, true, false, cond, _&&_}
-use mathlib.Core.List.{List}
+use mathlib.Core.List.{List, _∷_}
 use native.Mathlib.Nat.{not-suc-le-zero}
 use native.Mathlib.Omega.{arith}
 use lib.Dec.{leb}
 use lib.ListN.{length}
 use borrow.Author.Tests.{le-leb, lt-leb, leb-true, leb-false}
 use Rattle.words.specs.Numbers.{byte}
+use Rattle.header.specs.Refusals.{oneOf, headerRefusals}
 use Rattle.header.specs.Stored.{storedOf, areaAt, namesAt}
 use Rattle.header.specs.Fields.{widthAt, kindAt, widthSum}
 use Rattle.header.specs.Header.{headerRefusal}
@@ -25,6 +26,7 @@ use Rattle.header.specs.declared.field.Field.the-variants.{Is, Missing}
 use Rattle.header.proofs.KindLaws.{kind-width, known-width}
 use Rattle.header.proofs.FieldLaws.{offset-at, offsets-length}
 use Rattle.header.proofs.VerdictLaws.{unless-kept, unless-refused}
+use Rattle.header.proofs.RefusalLaws.{one-of-rest, header-refusals}
 use Rattle.header.proofs.RuleLaws.{verdict-gives, verdict-takes}
 
 -- ---- the verdict
@@ -110,6 +112,7 @@ module _ (t : List ℕ) (e : headerRefusal t ≡ 0) where
         key-most = omega (arith, most, f .widths);
         key-least = λ k. sum-some t area (s .«key_fields») k (λ i j. known i (omega (arith, l .keys-most)));
         pairs = f .pairs;
+        named = f .names;
       }
 
 -- ---- a header that was read: what its answer r says, without a word on the rules
@@ -150,16 +153,17 @@ module _ (t : List ℕ) (r : HeaderAnswer) (read : r ≡ headerAnswer t) where
     first-refused h =
         unless-refused (headerRefusal t) refused others (λ z. h (number ∙ z)) ∙ ap refused (sym number)
 
--- what a refusal has, and what comes after the rules where they are kept, every answer has that has the rules first
+-- what each of their refusals has, and what comes after the rules where they are kept, every answer has that has the
+-- rules first
 pub first-holds : {A : Type 0} (t : List ℕ) (refused : ℕ → A) (others : A) (Holds : A → Type 0) →
-    ((n : ℕ) → 1 ≤ n → Holds (refused n)) → (Accepted t (numbersOf t) → Holds others)
+    ((n : ℕ) → oneOf headerRefusals n ≡ true → Holds (refused n)) → (Accepted t (numbersOf t) → Holds others)
     → Holds (headerFirst t refused others)
 unfolding headerFirst unlessRefused
-first-holds t refused others Holds refusals kept = go (headerRefusal t) refl
+first-holds t refused others Holds refusals kept = go (headerRefusal t) refl (header-refusals t)
   where
-    go : (n : ℕ) → headerRefusal t ≡ n → Holds (unlessRefused n refused others)
-    go zero e = kept (accepted t e)
-    go (suc n) e = refusals (suc n) (omega arith)
+    go : (n : ℕ) → headerRefusal t ≡ n → oneOf (0 ∷ headerRefusals) n ≡ true → Holds (unlessRefused n refused others)
+    go zero e w = kept (accepted t e)
+    go (suc n) e w = refusals (suc n) (one-of-rest (suc n) 0 headerRefusals (λ z. omega arith) w)
 
 -- ---- a field
 

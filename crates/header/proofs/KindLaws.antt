@@ -6,7 +6,7 @@ use mathlib.Core.List.{List, [], _∷_}
 use native.Mathlib.Nat.{le-antisymm}
 use native.Mathlib.Omega.{arith}
 use lib.Dec.{eqb, leb}
-use borrow.Author.Tests.{ne-eqb, le-leb, lt-leb, leb-true}
+use borrow.Author.Tests.{ne-eqb, le-leb, lt-leb, leb-true, leb-false}
 use Rattle.header.specs.Kinds.{Row, row, kinds, permit, kindIn, kindOf, Permitted}
 use Rattle.header.specs.declared.kind.FieldKind.{FieldKind}
 use Rattle.header.specs.declared.kind.FieldKind.the-variants.{Text, Date, Short, Long, Number, Logical, Blob}
@@ -54,6 +54,20 @@ unknown-code code width text date short long currency number logical memo binary
       ne-eqb code 0x0F ole,
       ne-eqb code 0x10 graphic,
     )
+
+-- a row that permits no width
+pub permit-none : (kind : FieldKind) (width : ℕ) → permit kind width 1 0 ≡ Unknown
+permit-none kind width = go (leb 1 width) refl
+  where
+    go : (t : Bool) → leb 1 width ≡ t → permit kind width 1 0 ≡ Unknown
+    go true e = permit-wide kind width 1 0 (omega (arith, leb-true 1 width e))
+    go false e = permit-narrow kind width 1 0 (omega (arith, leb-false 1 width e))
+
+-- a row by its three numbers
+pub same-row : (code : ℕ) (kind its : FieldKind) (least most l m : ℕ) → (its ≡ kind) × (l ≡ least) × (m ≡ most) →
+    ((width : ℕ) → permit kind width least most ≡ kindOf code width) → (width : ℕ) →
+    permit its width l m ≡ kindOf code width
+same-row code kind its least most l m (e, f, g) h width = rw (e, f, g) (h width)
 
 -- ---- what a kind says of the width
 

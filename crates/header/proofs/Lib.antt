@@ -3,6 +3,8 @@ pub mod JudgedLaws
 pub mod FieldLaws
 pub mod NameLaws
 pub mod VerdictLaws
+pub mod RefusalLaws
 pub mod HeaderLaws
 pub mod RuleLaws
 pub mod AcceptedLaws
+pub mod NamedLaws

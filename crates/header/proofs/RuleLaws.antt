@@ -169,7 +169,7 @@ names-give t end (suc n) at e =
     (ltb-true (at + nameLength t at) end (q .1))
     (names-give t end n (at + nameLength t at + 1) (p .1))
 
-names-take : (t : List ℕ) (end n at : ℕ) → Names t end n at → namesFit t end n at ≡ true
+pub names-take : (t : List ℕ) (end n at : ℕ) → Names t end n at → namesFit t end n at ≡ true
 unfolding namesFit nameFits
 names-take t end zero at none = refl
 names-take t end (suc n) at (some {l = l} name inside rest) =

@@ -62,6 +62,11 @@ unfoldable pub namesFit : List ℕ → ℕ → ℕ → ℕ → Bool
 namesFit t end zero at = true
 namesFit t end (suc n) at = nameFits t end at && namesFit t end n (at + nameLength t at + 1)
 
+-- where the name behind so many others begins, the first at a place: each ends with a zero
+unfoldable pub nameStart : List ℕ → ℕ → ℕ → ℕ
+nameStart t zero at = at
+nameStart t (suc n) at = nameStart t n (at + nameLength t at + 1)
+
 -- 7: the pairs are right, the widths add up to the record size, and the names are inside the header
 unfoldable pub fieldsRight : List ℕ → Stored → Bool
 fieldsRight t s =

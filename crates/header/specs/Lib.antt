@@ -5,5 +5,6 @@ pub mod Fields
 pub mod Header
 pub mod Numbers
 pub mod Answers
+pub mod Names
 pub mod Rules
 pub mod Steps

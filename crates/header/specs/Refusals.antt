@@ -1,6 +1,8 @@
 -- Document 01's refusal numbers. A check that accepts answers 0. Definitions only.
 use Prim.Native.Nat.{ℕ}
-use mathlib.Core.Bool.{Bool, cond}
+use mathlib.Core.Bool.{Bool, false, cond, _||_}
+use mathlib.Core.List.{List, [], _∷_}
+use lib.Dec.{eqb}
 
 -- ---- table rules; 14 is tried between 7 and 8
 
@@ -74,3 +76,14 @@ indexTree = 27
 -- the number of a rule that is broken, or what the rules after it answer
 abbrev pub firstBroken : Bool → ℕ → ℕ → ℕ
 firstBroken kept number others = cond kept others number
+
+-- ---- the refusals that a call has
+
+-- a number is one of these
+unfoldable pub oneOf : List ℕ → ℕ → Bool
+oneOf [] n = false
+oneOf (m ∷ ms) n = eqb n m || oneOf ms n
+
+-- those of rules 1 to 7
+unfoldable pub headerRefusals : List ℕ
+headerRefusals = tooShort ∷ notATable ∷ unknownVersion ∷ encrypted ∷ headerLimit ∷ wrongLength ∷ fieldRule ∷ []

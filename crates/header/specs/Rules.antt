@@ -93,6 +93,7 @@ pub record Accepted (t : List ℕ) (h : Header) : Type 0 where
   pub key-most : h .«key_length» ≤ h .«record_size»
   pub key-least : 1 ≤ h .«key_fields» → 1 ≤ h .«key_length»
   pub pairs : (f : ℕ) → f < h .fields → kindAt t (h .area) f ≡ Unknown → ⊥
+  pub named : Names t (h .«header_size») (h .fields) (h .names)
 
 -- a field of such a table: its number is one of the fields', its kind and width are those of the stored pair, the
 -- kind permits the width, and it ends inside the record

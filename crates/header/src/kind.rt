@@ -1,5 +1,6 @@
 // Field kinds: the codes and the permitted widths of document 01's table.
 ghost use mathlib.Core.Path.{_≡_};
+ghost use Prim.Native.Nat.{ℕ};
 ghost use Rattle.header.specs.Kinds.{isBlob, kindOf, permit};
 
 // What a field holds. Currency (05) and number (06) hold the same values and are one kind here, and so are memo (0C),
@@ -18,6 +19,13 @@ pub enum FieldKind {
 pub enum StoredKind {
     Kind(FieldKind),
     Unknown,
+}
+
+// A row of document 01's table: the kind of a code, its least and its most width.
+struct KindRow {
+    kind: FieldKind,
+    least: usize,
+    most: usize,
 }
 
 impl FieldKind {
@@ -85,35 +93,37 @@ impl FieldKind {
     pub fn of(code: u8, width: usize) -> StoredKind
         ensures { λ r. ⌜ r ≡ kindOf code width ⌝ }
     {
+        let row = FieldKind::row_of(code);
+        let kind = row.kind;
+        permitted(kind, width, row.least, row.most)
+    }
+
+    // The row of a code: constants only, so that the compiler looks them up. A code that has none permits no width.
+    fn row_of(code: u8) -> KindRow
+        ensures { λ r. ⌜ ((width : ℕ) → permit (r .kind) width (r .least) (r .most) ≡ kindOf code width) ⌝ }
+    {
         match code {
-            Self::TEXT => permitted(FieldKind::Text, width, Self::TEXT_LEAST, Self::TEXT_MOST),
-            Self::DATE => exactly(FieldKind::Date, width, Self::DATE_WIDTH),
-            Self::SHORT => exactly(FieldKind::Short, width, Self::SHORT_WIDTH),
-            Self::LONG => exactly(FieldKind::Long, width, Self::LONG_WIDTH),
-            Self::CURRENCY => exactly(FieldKind::Number, width, Self::CURRENCY_WIDTH),
-            Self::NUMBER => exactly(FieldKind::Number, width, Self::NUMBER_WIDTH),
-            Self::LOGICAL => exactly(FieldKind::Logical, width, Self::LOGICAL_WIDTH),
-            Self::MEMO => permitted(FieldKind::Blob, width, Self::MEMO_LEAST, Self::MEMO_MOST),
-            Self::BINARY => permitted(
-                FieldKind::Blob,
-                width,
-                Self::BINARY_LEAST,
-                Self::BINARY_MOST,
+            Self::TEXT => kind_row(FieldKind::Text, Self::TEXT_LEAST, Self::TEXT_MOST),
+            Self::DATE => kind_row(FieldKind::Date, Self::DATE_WIDTH, Self::DATE_WIDTH),
+            Self::SHORT => kind_row(FieldKind::Short, Self::SHORT_WIDTH, Self::SHORT_WIDTH),
+            Self::LONG => kind_row(FieldKind::Long, Self::LONG_WIDTH, Self::LONG_WIDTH),
+            Self::CURRENCY => kind_row(
+                FieldKind::Number,
+                Self::CURRENCY_WIDTH,
+                Self::CURRENCY_WIDTH,
             ),
-            Self::FORMATTED_MEMO => permitted(
+            Self::NUMBER => kind_row(FieldKind::Number, Self::NUMBER_WIDTH, Self::NUMBER_WIDTH),
+            Self::LOGICAL => kind_row(FieldKind::Logical, Self::LOGICAL_WIDTH, Self::LOGICAL_WIDTH),
+            Self::MEMO => kind_row(FieldKind::Blob, Self::MEMO_LEAST, Self::MEMO_MOST),
+            Self::BINARY => kind_row(FieldKind::Blob, Self::BINARY_LEAST, Self::BINARY_MOST),
+            Self::FORMATTED_MEMO => kind_row(
                 FieldKind::Blob,
-                width,
                 Self::FORMATTED_MEMO_LEAST,
                 Self::FORMATTED_MEMO_MOST,
             ),
-            Self::OLE => permitted(FieldKind::Blob, width, Self::OLE_LEAST, Self::OLE_MOST),
-            Self::GRAPHIC => permitted(
-                FieldKind::Blob,
-                width,
-                Self::GRAPHIC_LEAST,
-                Self::GRAPHIC_MOST,
-            ),
-            _ => StoredKind::Unknown,
+            Self::OLE => kind_row(FieldKind::Blob, Self::OLE_LEAST, Self::OLE_MOST),
+            Self::GRAPHIC => kind_row(FieldKind::Blob, Self::GRAPHIC_LEAST, Self::GRAPHIC_MOST),
+            _ => kind_row(FieldKind::Blob, 1, 0),
         }
     }
 
@@ -145,9 +155,8 @@ fn permitted(kind: FieldKind, width: usize, least: usize, most: usize) -> Stored
     StoredKind::Unknown
 }
 
-// The kind, where the width is its only one.
-fn exactly(kind: FieldKind, width: usize, only: usize) -> StoredKind
-    ensures { λ r. ⌜ r ≡ permit kind width only only ⌝ }
+fn kind_row(kind: FieldKind, least: usize, most: usize) -> KindRow
+    ensures { λ r. ⌜ (r .kind ≡ kind) × (r .least ≡ least) × (r .most ≡ most) ⌝ }
 {
-    permitted(kind, width, only, only)
+    KindRow { kind, least, most }
 }

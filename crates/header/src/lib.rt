@@ -1,9 +1,10 @@
-// The header of a table: field kinds, refusal numbers, and table rules 1 to 7 in one call.
+// The header of a table: field kinds, refusal numbers, table rules 1 to 7 in one call, and the names of fields.
 mod answer;
 mod field;
 mod fields;
 mod judged;
 mod kind;
+mod named;
 mod names;
 pub mod refusal;
 mod rules;
@@ -14,6 +15,8 @@ pub use field::Field;
 pub use field::field_of;
 pub use kind::FieldKind;
 pub use kind::StoredKind;
+pub use named::Name;
+pub use named::name_in;
 pub use rules::BLOCK_HEAD;
 pub use rules::MOST_BLOCKS;
 pub use rules::MOST_RECORDS;
@@ -23,7 +26,10 @@ pub use rules::known_version;
 pub use stored::block_bytes;
 pub use stored::block_size;
 ghost use mathlib.Core.Path.{_≡_};
+ghost use denote.Ref.{ptr};
+ghost use Rattle.words.specs.Order.{behind};
 ghost use Rattle.header.specs.Answers.{Front, frontAnswer, headerAnswer};
+ghost use Rattle.header.specs.Names.{nameBegin, nameBytes, nameOf};
 
 // The numbers of a header. Sizes and lengths are in bytes.
 pub struct Header {
@@ -60,6 +66,29 @@ pub fn read(t: &[u8]) -> HeaderAnswer
     ensures { λ r. ⌜ r ≡ headerAnswer (now (t .entry)) ⌝ }
 {
     judge(t, t.len(), refusal::WRONG_LENGTH)
+}
+
+// Where the name of a field, counted from 1, is in any bytes; or the first of 1 to 7 and 13 that applies.
+pub fn find_name(t: &[u8], field: usize) -> Name
+    ensures { λ r. ⌜ r ≡ nameOf (now (t .entry)) field ⌝ }
+{
+    let answer = read(t);
+    if answer.refusal != refusal::ACCEPTED {
+        return Name::Refused(answer.refusal);
+    }
+    let h = answer.header;
+    name_in(t, h, field)
+}
+
+// The name itself as the part of the table it is, bytes and address; empty where `find_name` refuses.
+pub fn name(t: &[u8], field: usize) -> &[u8]
+    ensures { λ r. ⌜ now r ≡ nameBytes (now (t .entry)) (nameOf (now (t .entry)) field) ⌝ }
+    ensures { λ r. ⌜ ptr r ≡ behind (ptr (t .entry)) (nameBegin (nameOf (now (t .entry)) field)) ⌝ }
+{
+    let Name::At { start, len } = find_name(t, field) else {
+        return &t[..0];
+    };
+    &t[start..start + len]
 }
 
 // Tries rules 1 to 7 on a file of this length by its front: the header's numbers, or the first broken rule's number,

@@ -11,6 +11,7 @@ use borrow.Author.Tests.{eqb-true, eqb-false}
 use Rattle.header.specs.Refusals.{chainRule, wrongCount, badArgument, indexTree}
 use Rattle.header.specs.Numbers.{numbersOf}
 use Rattle.header.specs.declared.Header.{Header}
+use Rattle.header.proofs.RefusalLaws.{refusal-least}
 use Rattle.header.proofs.AcceptedLaws.{first-holds}
 use Rattle.blocks.specs.Shape.{shapeOf, hasBlock}
 use Rattle.blocks.specs.Counts.{countIn}
@@ -109,8 +110,8 @@ module _ (t x key : List ℕ) where
   pub walk-reads : Reads 0 (i .levels) (walkOf t x key)
   unfolding walkOf
   walk-reads =
-      first-holds t refusedWalk (walkKey t h x key) (Reads 0 (i .levels)) (λ n l. by-refusal 0 (i .levels) n l)
-      (λ a. by-key (keyFits h key) refl)
+      first-holds t refusedWalk (walkKey t h x key) (Reads 0 (i .levels))
+      (λ n w. by-refusal 0 (i .levels) n (refusal-least n w)) (λ a. by-key (keyFits h key) refl)
     where
       by-root : keyFits h key ≡ true → i .refusal ≡ 0 → (c : Bool) → eqb (i .root) 0 ≡ c →
           Reads 0 (i .levels) (walkKey t h x key)

@@ -1,30 +1,29 @@
 -- The text of a cell, case by case; what a cell of a table gives for printing it, and how long it is. Assumes nothing.
 use Prim.Native.Nat.{ℕ, suc, _+_, _-_, _≤_, _<_}
 use mathlib.Core.Path.{_≡_, sym, ap, _∙_, subst}
-use mathlib.Core.Bool.{Bool, true, not, true≢false}
+use mathlib.Core.Bool.{Bool, true}
 use mathlib.Core.List.{List, [], _∷_, _++_}
 use native.Mathlib.Omega.{arith}
-use lib.Dec.{T}
 use lib.IntN.{ℤ, pos, negsuc}
-use lib.Ieee.{Float, nan, inf, fin, isNan, binary64, toBits}
+use lib.Ieee.{Float, binary64, toBits}
 use lib.Ieee.Scale.{finite}
 use lib.ListN.{length}
 use lib.Signed.{mag}
 use borrow.Author.Tests.{le-leb}
 use Rattle.words.specs.Order.{range}
+use Rattle.words.specs.Signed.{shifted}
 use Rattle.cell.specs.Values.{contentOf, answerOf}
 use Rattle.cell.specs.declared.value.Value.{Value}
 use Rattle.cell.specs.declared.value.Value.the-variants as Val
 use Rattle.cell.specs.declared.value.Cell.{Cell}
 use Rattle.cell.specs.declared.value.Cell.the-variants.{Is, Refused}
-use Rattle.cell.proofs.SignedCasts.{shift}
 use Rattle.buffer.specs.Text.{decimal, minus, signedText, shiftedText, hexText}
 use Rattle.buffer.proofs.TextLaws.{shifted-plain, shifted-minus}
 use Rattle.listing.specs.Listing.{bang, letter, cellText}
 use Rattle.listing.specs.Steps.{Printable, PrintableCell, valueText}
 
 -- a signed number is what it is with `top` added
-pub shifted-is : (top : ℕ) (z : ℤ) → mag z < top → shiftedText top (shift top z) ≡ signedText z
+pub shifted-is : (top : ℕ) (z : ℤ) → mag z < top → shiftedText top (shifted top z) ≡ signedText z
 unfolding signedText
 shifted-is top (pos n) l =
     let e : n + top - top ≡ n = omega arith in
@@ -90,10 +89,3 @@ module _ (t : List ℕ) (c : Cell) where
   pub value-printable : (v : Value) → c ≡ Is v → PrintableCell t c → Printable t v
   unfolding PrintableCell
   value-printable v e p = subst (PrintableCell t) e p
-
--- a finite number is no not-a-number
-pub finite-number : (x : Float) → finite x ≡ true → T (not (isNan x))
-unfolding isNan
-finite-number nan e = true≢false (sym e)
-finite-number (inf s) e = tt
-finite-number (fin s m e) h = tt

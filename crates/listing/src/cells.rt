@@ -27,14 +27,14 @@ const LONG_TOP: u64 = 2147483648;
 fn short_shifted(z: i16) -> u64
     ensures { λ r. ⌜ shiftedText 32768 r ≡ signedText z ⌝ }
 {
-    (z as i64 + SHORT_TOP as i64) as u64
+    cell::shifted_short(z)
 }
 
 // A long, in the same way.
 fn long_shifted(z: i32) -> u64
     ensures { λ r. ⌜ shiftedText 2147483648 r ≡ signedText z ⌝ }
 {
-    (z as i64 + LONG_TOP as i64) as u64
+    cell::shifted_long(z)
 }
 
 // A finite number: the 16 hex digits of its bits.

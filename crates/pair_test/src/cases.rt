@@ -9,16 +9,13 @@ use crate::answers::answer;
 use crate::every::every;
 use crate::files::KEY;
 use crate::files::MARKS;
-use crate::files::Span;
-use crate::files::copy;
+use test_lines::after::after;
 use test_lines::lines::Buffer;
 use test_lines::lines::CASE;
 use test_lines::lines::Line;
 use test_lines::lines::SIZE;
-use test_lines::lines::answered;
 use test_lines::lines::end;
 use test_lines::lines::fresh;
-use test_lines::lines::noted;
 use test_lines::lines::stays;
 use test_lines::lines::step;
 
@@ -62,37 +59,13 @@ fn feed(t: &mut Buffer, first: &mut Buffer, line: Line, lent: Lent, b: u8) -> Li
     step(t, line, b)
 }
 
-// The copy's places with the line's number as one of them.
-fn given(line: Line, span: Span) -> Span {
-    let command = line.command;
-    let mut s = span;
-    match command {
-        b'.' => s.from = line.number,
-        b'/' => s.to = line.number,
-        _ => {}
-    }
-    s
-}
-
 // Carries out a command.
-fn act(t: &mut Buffer, line: Line, span: Span) {
+fn act(t: &Buffer, line: Line) {
     let command = line.command;
     match command {
-        b'x' => copy(t, span, line.number),
         b'v' => every(t, line),
         b'?' | b'!' | b'w' | b's' | b'l' | b'h' => answer(t, line),
         _ => {}
-    }
-}
-
-// The line after a command.
-fn after(line: Line) -> Line {
-    let command = line.command;
-    match command {
-        0 => line,
-        b'k' => noted(line, KEY),
-        b'.' | b'/' | b'x' => noted(line, 0),
-        _ => answered(line),
     }
 }
 
@@ -102,15 +75,13 @@ pub fn run(lines: &[u8]) {
     let mut first = [0u8; SIZE];
     let mut lent = Lent { table: 0, index: 0 };
     let mut line = ready(lent);
-    let mut span = Span { from: 0, to: 0 };
     let mut i: usize = 0;
     while i < lines.len() {
         let b = lines[i];
         i += 1;
         lent = kept(line, lent, b);
         line = feed(&mut t, &mut first, line, lent, b);
-        span = given(line, span);
-        act(&mut t, line, span);
-        line = after(line);
+        act(&t, line);
+        line = after(&mut t, line, b'k', KEY);
     }
 }

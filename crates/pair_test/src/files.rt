@@ -5,7 +5,6 @@ use test_lines::lines::Line;
 use test_lines::lines::SIZE;
 use test_lines::lines::behind;
 use test_lines::lines::part;
-use test_lines::lines::store;
 
 const INDEX: usize = 0x3000;
 
@@ -13,12 +12,6 @@ pub const KEY: usize = 0x6000;
 
 // How many marks there are. Fewer of them may be lent.
 pub const MARKS: usize = 16;
-
-// The places of a copy: `from` its first byte, `to` where that goes.
-pub struct Span {
-    pub from: usize,
-    pub to: usize,
-}
 
 // The bytes of the table that are lent.
 pub fn table(t: &Buffer, line: Line) -> &[u8] {
@@ -33,21 +26,6 @@ pub fn index(t: &Buffer, line: Line) -> &[u8] {
 // The key that ends where the line stands.
 pub fn key(t: &Buffer, line: Line) -> &[u8] {
     behind(part(t, line.number), KEY)
-}
-
-// Copies bytes one after another: where the places overlap, what was just stored is copied again.
-pub fn copy(t: &mut Buffer, span: Span, count: usize) {
-    let mut from = span.from;
-    let mut to = span.to;
-    let mut left = count;
-    while left > 0 {
-        left -= 1;
-        if from < SIZE {
-            let b = t[from];
-            to = store(t, to, b);
-            from += 1;
-        }
-    }
 }
 
 // A place further on, at most the buffer's end.

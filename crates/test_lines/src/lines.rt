@@ -38,10 +38,13 @@ pub const SIZE: usize = 32768;
 pub type Buffer = [u8; SIZE];
 
 // A line as far as it is read. `command` is the letter just read where that is the program's, otherwise 0; `number` is
-// the number or place before it. `marks`, `long`, `index` and `fill` say what is lent.
+// the number or place before it, `first` and `second` are numbers before that one. `marks`, `long`, `index` and `fill`
+// say what is lent.
 pub struct Line {
     pub kind: u8,
     pub command: u8,
+    pub first: usize,
+    pub second: usize,
     pub number: usize,
     pub marks: usize,
     pub long: usize,
@@ -55,6 +58,8 @@ pub fn fresh() -> Line {
     Line {
         kind: NOTHING,
         command: 0,
+        first: 0,
+        second: 0,
         number: 0,
         marks: 8,
         long: TABLE_SIZE,

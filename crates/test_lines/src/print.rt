@@ -11,7 +11,11 @@ pub fn letter(b: u8) {
 }
 
 pub fn number(n: u16) {
-    io::print_decimal(STDOUT_FILENO, n as u64);
+    decimal(n as u64);
+}
+
+pub fn decimal(n: u64) {
+    io::print_decimal(STDOUT_FILENO, n);
 }
 
 // A byte as two hex digits.

@@ -1,4 +1,4 @@
--- Two numbers told apart; two branches that are the same. Assumes nothing.
+-- Two numbers told apart; two branches that are the same, or have the same. Assumes nothing.
 use Prim.Native.Nat.{ℕ, _≤_, _<_}
 use mathlib.Core.Path.{_≡_, refl}
 use mathlib.Core.Bool.{Bool, true, false, cond}
@@ -17,3 +17,8 @@ lt-or-ge n m = go (ltb n m) refl
 pub cond-same : {A : Type 0} (c : Bool) (x : A) → cond c x x ≡ x
 cond-same true x = refl
 cond-same false x = refl
+
+-- what two answers have, has either of them
+pub either : {A : Type 0} (Holds : A → Type 0) (b : Bool) (x y : A) → Holds x → Holds y → Holds (cond b x y)
+either Holds true x y p q = p
+either Holds false x y p q = q

@@ -1,5 +1,5 @@
 -- Byte order of two ranges of bytes. Definitions only.
-use Prim.Native.Nat.{ℕ}
+use Prim.Native.Nat.{ℕ, _+_}
 use mathlib.Core.List.{List, [], _∷_}
 use mathlib.Core.Bool.{Bool, true, false, cond}
 use lib.Dec.{ltb}
@@ -10,6 +10,10 @@ use Rattle.words.specs.declared.Order.the-variants.{Less, Same, More}
 -- the n bytes of a file from an offset
 abbrev pub range : List ℕ → ℕ → ℕ → List ℕ
 range s at n = take n (drop at s)
+
+-- the address so many bytes behind another
+abbrev pub behind : ℕ × ℕ → ℕ → ℕ × ℕ
+behind address n = (address .0, n + address .1)
 
 -- byte order: the first byte that differs decides, and a range that ends first is less
 unfoldable pub order : List ℕ → List ℕ → Order

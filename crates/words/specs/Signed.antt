@@ -15,3 +15,8 @@ complemented top n = cond (leb top n) (n - top) (n + top)
 -- a number read as signed: where its top bit is set, twice that bit less. negsuc k is -(k + 1)
 unfoldable pub signed : ℕ → ℕ → ℤ
 signed top n = cond (ltb n top) (pos n) (negsuc (top + top - suc n))
+
+-- a signed number with the top bit added
+abbrev pub shifted : ℕ → ℤ → ℕ
+shifted top (pos m) = m + top
+shifted top (negsuc m) = top - suc m

@@ -1,11 +1,16 @@
-//! The costs of the four calls, beside the model's, on tables of three sizes.
+//! The costs of the calls, beside the model's: checks and lookups on tables of three sizes, the
+//! other calls on a table of eight fields.
 
 mod data;
+mod image;
 mod measured;
+mod round;
+mod task;
 mod time;
 
-pub use data::{Data, Size};
-pub use measured::{measured_ours, measured_rust, Measured, Task};
+pub use data::{Data, Which};
+pub use measured::{measured_ours, measured_rust, Measured};
+pub use task::Task;
 pub use time::print_times;
 
 /// Whose code is measured.

@@ -1,6 +1,6 @@
 //! Times of the calls, the two sides in turn, each the median of many runs.
 
-use super::{Data, Measured, Size, Task, Who};
+use super::{Data, Measured, Task, Which, Who};
 use std::time::{Duration, Instant};
 
 /// The least time of one run; a shorter call is made several times in it.
@@ -10,19 +10,19 @@ const ROW: Duration = Duration::from_millis(1500);
 const LEAST_RUNS: usize = 9;
 const MOST_RUNS: usize = 301;
 
-/// Measures every call on every size and prints a Markdown table.
+/// Measures the calls on every table and prints a Markdown table.
 pub fn print_times() {
     println!("| Table | Call | Ours | Rust | Ours / Rust |");
     println!("|---|---|---:|---:|---:|");
-    for size in Size::ALL {
-        let data = Data::make(size);
-        for task in Task::ALL {
-            print_row(size, task, &data);
+    for which in Which::ALL {
+        let data = Data::make(which);
+        for &task in Task::all_of(which) {
+            print_row(which, task, &data);
         }
     }
 }
 
-fn print_row(size: Size, task: Task, data: &Data) {
+fn print_row(which: Which, task: Task, data: &Data) {
     let mut measured = Measured::new(task, data);
     let calls = calls_a_run(&mut measured);
     let mut ours = Vec::new();
@@ -36,7 +36,7 @@ fn print_row(size: Size, task: Task, data: &Data) {
     let ratio = ours / rust;
     println!(
         "| {} | {} | {} | {} | {ratio:.2} |",
-        size.name(),
+        which.name(),
         task.name(),
         readable(ours),
         readable(rust)

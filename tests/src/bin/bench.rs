@@ -1,20 +1,20 @@
-//! Times the four calls beside the model's, or makes one of them for a profiler.
+//! Times the calls beside the model's, or makes those of one task for a profiler.
 
-use brittomaz_tests::bench::{print_times, Data, Measured, Size, Task, Who};
+use brittomaz_tests::bench::{print_times, Data, Measured, Task, Which, Who};
 use std::io;
 use std::path::PathBuf;
 use std::process::ExitCode;
 
 const USAGE: &str = "bench
 bench --write DIR
-bench --once CALL SIDE SIZE [--data DIR]
-CALL is table-check, pair-check, scan-last, scan-absent or walk; SIDE is ours or rust;
-SIZE is small, middle or large";
+bench --once CALL SIDE TABLE [--data DIR]
+CALL is table-check, pair-check, scan-last, scan-absent, walk, header, field, cell, record,
+record-no-room, step or write; SIDE is ours or rust; TABLE is small, middle, large or fields";
 
 enum Command {
     Times,
     Write(PathBuf),
-    Once(Task, Who, Size, Option<PathBuf>),
+    Once(Task, Who, Which, Option<PathBuf>),
 }
 
 fn main() -> ExitCode {
@@ -28,7 +28,7 @@ fn main() -> ExitCode {
             Ok(())
         }
         Command::Write(directory) => write_data(directory),
-        Command::Once(task, who, size, data) => once(task, who, size, data),
+        Command::Once(task, who, which, data) => once(task, who, which, data),
     };
     match done {
         Ok(()) => ExitCode::SUCCESS,
@@ -42,31 +42,33 @@ fn main() -> ExitCode {
 fn read_command() -> Option<Command> {
     let arguments: Vec<String> = std::env::args().skip(1).collect();
     let arguments: Vec<&str> = arguments.iter().map(String::as_str).collect();
-    let once = |task, who, size, data: Option<&str>| {
-        let (task, who, size) = (Task::named(task)?, Who::named(who)?, Size::named(size)?);
-        Some(Command::Once(task, who, size, data.map(PathBuf::from)))
+    let once = |task, who, which, data: Option<&str>| {
+        let (task, who, which) = (Task::named(task)?, Who::named(who)?, Which::named(which)?);
+        Some(Command::Once(task, who, which, data.map(PathBuf::from)))
     };
     match arguments[..] {
         [] => Some(Command::Times),
         ["--write", directory] => Some(Command::Write(directory.into())),
-        ["--once", task, who, size] => once(task, who, size, None),
-        ["--once", task, who, size, "--data", directory] => once(task, who, size, Some(directory)),
+        ["--once", task, who, which] => once(task, who, which, None),
+        ["--once", task, who, which, "--data", directory] => {
+            once(task, who, which, Some(directory))
+        }
         _ => None,
     }
 }
 
 fn write_data(directory: PathBuf) -> io::Result<()> {
-    for size in Size::ALL {
-        Data::make(size).write(&directory, size)?;
+    for which in Which::ALL {
+        Data::make(which).write(&directory, which)?;
     }
     Ok(())
 }
 
-/// Makes one round of a call and prints how many calls that was: 1, or many for the walk.
-fn once(task: Task, who: Who, size: Size, data: Option<PathBuf>) -> io::Result<()> {
+/// Makes one round of a task and prints how many calls that was.
+fn once(task: Task, who: Who, which: Which, data: Option<PathBuf>) -> io::Result<()> {
     let data = match data {
-        Some(directory) => Data::read(&directory, size)?,
-        None => Data::make(size),
+        Some(directory) => Data::read(&directory, which)?,
+        None => Data::make(which),
     };
     let mut measured = Measured::new(task, &data);
     let calls = measured.round();

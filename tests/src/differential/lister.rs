@@ -1,6 +1,6 @@
 //! The lister as a process, its output beside the model's listing.
 
-use super::compare::Difference;
+use super::difference::Difference;
 use super::tally::{Call, Tally};
 use crate::model;
 use crate::random::Random;
@@ -30,8 +30,7 @@ pub fn compare_listing(
     Ok(Some(Difference {
         call: Call::Listing,
         what,
-        key: None,
-        marks: None,
+        lent: Vec::new(),
     }))
 }
 

@@ -1,7 +1,7 @@
 //! Inputs that showed a difference, saved under names that say where they come from.
 
 use super::case::Case;
-use super::compare::Difference;
+use super::difference::Difference;
 use super::tally::Call;
 use std::io;
 use std::path::{Path, PathBuf};
@@ -30,19 +30,14 @@ pub fn save(
     );
     std::fs::create_dir_all(directory)?;
     let with_index = difference.call != Call::Listing;
-    let parts = [
-        ("db", Some(&case.table)),
-        ("px", with_index.then_some(&case.index)),
-        ("key", difference.key.as_ref()),
-        ("marks", difference.marks.as_ref()),
-    ];
+    let index = with_index.then_some(("px", &case.index));
+    let lent = difference.lent.iter().map(|(name, bytes)| (*name, bytes));
+    let files = [("db", &case.table)].into_iter().chain(index).chain(lent);
     let mut paths = Vec::new();
-    for (extension, bytes) in parts {
-        if let Some(bytes) = bytes {
-            let path = directory.join(&name).with_extension(extension);
-            std::fs::write(&path, bytes)?;
-            paths.push(path);
-        }
+    for (extension, bytes) in files {
+        let path = directory.join(&name).with_extension(extension);
+        std::fs::write(&path, bytes)?;
+        paths.push(path);
     }
     Ok(paths)
 }

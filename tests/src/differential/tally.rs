@@ -1,5 +1,6 @@
 //! What a run has seen: how often each call gave each answer.
 
+use crate::calls::{refusal_of, BLANK, RECORD, TEXT};
 use std::fmt;
 
 /// Where an answer comes from.
@@ -15,15 +16,42 @@ pub enum Call {
     Walk,
     /// The lister's output.
     Listing,
+    /// The header's numbers.
+    Header,
+    /// A field's numbers.
+    Field,
+    /// A cell.
+    Cell,
+    /// A record's cells.
+    Record,
+    /// A cell written.
+    Write,
+    /// A cursor's start.
+    Start,
+    /// A cursor's step.
+    Step,
 }
 
-const CALLS: [Call; 5] = [
-    Call::TableCheck,
-    Call::PairCheck,
-    Call::Scan,
-    Call::Walk,
-    Call::Listing,
+/// The calls in the order of the printed columns, one table each.
+const COLUMNS: [&[Call]; 2] = [
+    &[
+        Call::TableCheck,
+        Call::PairCheck,
+        Call::Scan,
+        Call::Walk,
+        Call::Listing,
+    ],
+    &[
+        Call::Header,
+        Call::Field,
+        Call::Cell,
+        Call::Record,
+        Call::Write,
+        Call::Start,
+        Call::Step,
+    ],
 ];
+const CALLS: usize = Call::Step as usize + 1;
 const NUMBERS: usize = 28;
 
 impl Call {
@@ -35,6 +63,13 @@ impl Call {
             Call::Scan => "scan",
             Call::Walk => "walk",
             Call::Listing => "listing",
+            Call::Header => "header",
+            Call::Field => "field",
+            Call::Cell => "cell",
+            Call::Record => "record",
+            Call::Write => "write",
+            Call::Start => "start",
+            Call::Step => "step",
         }
     }
 
@@ -48,9 +83,51 @@ impl Call {
             Call::Scan => &[0, 1, 2, 3, 4, 5, 6, 7, 8, 9, 10, 13, 14],
             Call::Walk => &[0, 1, 2, 3, 4, 5, 6, 7, 8, 9, 13, 21, 22, 23, 25, 26, 27],
             Call::Listing => &[0, 1, 2, 3, 4, 5, 6, 7, 8, 9, 10, 11, 12, 14],
+            Call::Header => &[0, 1, 2, 3, 4, 5, 6, 7, 14],
+            Call::Field => &[0, 1, 2, 3, 4, 5, 6, 7, 13, 14],
+            Call::Cell => &[0, 1, 2, 3, 4, 5, 6, 7, 9, 11, 12, 13, 14],
+            Call::Record => &[0, 1, 2, 3, 4, 5, 6, 7, 9, 13, 14],
+            Call::Write => &[0, 11, 12, 13, 14],
+            Call::Start => &[0, 1, 2, 3, 4, 5, 6, 7, 8, 9, 14],
+            Call::Step => &[0, 1, 2, 3, 4, 5, 6, 7, 8, 9, 13, 14],
         }
     }
 }
+
+/// What an answer without a refusal can be beside 0.
+#[derive(Clone, Copy)]
+pub enum Event {
+    /// A lookup found a record.
+    Found,
+    /// A lookup found none.
+    Absent,
+    /// A start came to a record.
+    StartedOnRecord,
+    /// A start came to the end.
+    StartedAtEnd,
+    /// A step came to a record.
+    SteppedToRecord,
+    /// A step came to the end.
+    SteppedToEnd,
+    /// A cursor went through an accepted table.
+    GoneThrough,
+}
+
+/// The events with their names.
+const EVENTS: [(Event, &str); 7] = [
+    (Event::Found, "keys found"),
+    (Event::Absent, "keys absent"),
+    (Event::StartedOnRecord, "starts on record"),
+    (Event::StartedAtEnd, "starts at the end"),
+    (Event::SteppedToRecord, "steps to a record"),
+    (Event::SteppedToEnd, "steps to the end"),
+    (Event::GoneThrough, "tables gone through"),
+];
+
+/// What a cell can be, from blank to text.
+const WHAT: [&str; 7] = [
+    "blank", "short", "long", "date", "number", "logical", "text",
+];
 
 /// Counts of a run.
 #[derive(Default)]
@@ -61,20 +138,39 @@ pub struct Tally {
     pub listings: u64,
     /// Keys looked up.
     pub keys: u64,
-    /// Lookups that found a record.
-    pub found: u64,
-    /// Lookups that were not refused and found none.
-    pub absent: u64,
     /// Differences seen.
     pub differences: u64,
-    answers: [[u64; CALLS.len()]; NUMBERS],
+    events: [u64; EVENTS.len()],
+    answers: [[u64; CALLS]; NUMBERS],
+    read: [u64; WHAT.len()],
+    written: [u64; WHAT.len()],
 }
 
 impl Tally {
-    /// Counts an answer.
+    /// Counts an answer's number.
     pub fn count(&mut self, call: Call, number: u32) {
         if let Some(row) = self.answers.get_mut(number as usize) {
             row[call as usize] += 1;
+        }
+    }
+
+    /// Counts an event.
+    pub fn note(&mut self, event: Event) {
+        self.events[event as usize] += 1;
+    }
+
+    /// Counts the answer of a call that is lent numbers or writes a value. The first number says what the
+    /// cell is.
+    pub fn count_answer(&mut self, call: Call, answer: u32, numbers: &[u64]) {
+        self.count(call, refusal_of(answer.into()));
+        match (call, answer) {
+            (Call::Start, RECORD) => self.note(Event::StartedOnRecord),
+            (Call::Start, 0) => self.note(Event::StartedAtEnd),
+            (Call::Step, RECORD) => self.note(Event::SteppedToRecord),
+            (Call::Step, 0) => self.note(Event::SteppedToEnd),
+            (Call::Cell, 0) => count_what(&mut self.read, numbers),
+            (Call::Write, 0) => count_what(&mut self.written, numbers),
+            _ => {}
         }
     }
 
@@ -83,52 +179,85 @@ impl Tally {
         self.answers[number][call as usize]
     }
 
-    /// The answers that should have come up and did not.
-    pub fn missing(&self) -> Vec<(Call, usize)> {
-        let judged = |call: &Call| *call != Call::Listing || self.listings > 0;
-        let wanted = |call: Call| call.wanted().iter().map(move |&number| (call, number));
-        let all = CALLS.into_iter().filter(judged).flat_map(wanted);
-        all.filter(|&(call, number)| self.seen(call, number) == 0)
-            .collect()
+    /// The names of what should have come up and did not.
+    pub fn missing(&self) -> Vec<String> {
+        let judged = |call: &&Call| **call != Call::Listing || self.listings > 0;
+        let mut missing = Vec::new();
+        for call in COLUMNS.concat().iter().filter(judged) {
+            let unseen = |number: &&usize| self.seen(*call, **number) == 0;
+            let unseen = call.wanted().iter().filter(unseen);
+            missing.extend(unseen.map(|number| format!("answer {number} of {}", call.name())));
+        }
+        let events = EVENTS.iter().zip(&self.events);
+        let unseen = events.filter(|(_, &count)| count == 0);
+        missing.extend(unseen.map(|((_, name), _)| name.to_string()));
+        for (what, (read, written)) in WHAT.iter().zip(self.read.iter().zip(&self.written)) {
+            if *read == 0 || *written == 0 {
+                missing.push(format!("a {what} read, or one written,"));
+            }
+        }
+        missing
     }
 
     fn calls(&self) -> u64 {
-        let of_calls = self
-            .answers
-            .iter()
-            .map(|row| &row[..Call::Listing as usize]);
-        of_calls.flatten().sum()
+        let all: u64 = self.answers.iter().flatten().sum();
+        let listings = self.answers.iter().map(|row| row[Call::Listing as usize]);
+        all - listings.sum::<u64>()
+    }
+}
+
+/// Counts what a cell is, by the first of its numbers.
+fn count_what(counts: &mut [u64; WHAT.len()], numbers: &[u64]) {
+    if let Some(&what @ BLANK..=TEXT) = numbers.first() {
+        counts[(what - BLANK) as usize] += 1;
     }
 }
 
 impl fmt::Display for Tally {
     fn fmt(&self, out: &mut fmt::Formatter) -> fmt::Result {
-        writeln!(out, "cases            {:>9}", self.cases)?;
-        writeln!(out, "calls compared   {:>9}", self.calls())?;
-        writeln!(out, "keys looked up   {:>9}", self.keys)?;
-        writeln!(out, "found            {:>9}", self.found)?;
-        writeln!(out, "absent           {:>9}", self.absent)?;
-        writeln!(
-            out,
-            "accepted tables  {:>9}",
-            self.seen(Call::TableCheck, 0)
-        )?;
-        writeln!(out, "accepted pairs   {:>9}", self.seen(Call::PairCheck, 0))?;
-        writeln!(out, "listings         {:>9}", self.listings)?;
-        writeln!(out)?;
-        writeln!(
-            out,
-            "answer  table check  pair check       scan       walk    listing"
-        )?;
-        for (number, row) in self.answers.iter().enumerate() {
-            if row.iter().any(|&count| count > 0) {
-                let [table, pair, scan, walk, listing] = row;
-                writeln!(
-                    out,
-                    "{number:>6}  {table:>11}  {pair:>10} {scan:>10} {walk:>10} {listing:>10}"
-                )?;
-            }
+        let first = [
+            ("cases", self.cases),
+            ("calls compared", self.calls()),
+            ("keys looked up", self.keys),
+            ("accepted tables", self.seen(Call::TableCheck, 0)),
+            ("accepted pairs", self.seen(Call::PairCheck, 0)),
+            ("listings", self.listings),
+        ];
+        let events = EVENTS.iter().zip(self.events);
+        let events = events.map(|((_, name), count)| (*name, count));
+        for (name, count) in first.into_iter().chain(events) {
+            writeln!(out, "{name:<19} {count:>9}")?;
         }
-        writeln!(out, "In listings 11 and 12 are tables with such cells.")
+        for columns in COLUMNS {
+            self.print_answers(columns, out)?;
+        }
+        writeln!(out, "In listings 11 and 12 are tables with such cells.\n")?;
+        writeln!(out, "cell           read    written")?;
+        for (what, (read, written)) in WHAT.iter().zip(self.read.iter().zip(&self.written)) {
+            writeln!(out, "{what:<7} {read:>11} {written:>10}")?;
+        }
+        Ok(())
+    }
+}
+
+impl Tally {
+    /// Prints the answers of some calls, a row for each number that came up.
+    fn print_answers(&self, columns: &[Call], out: &mut fmt::Formatter) -> fmt::Result {
+        write!(out, "\nanswer")?;
+        for call in columns {
+            write!(out, " {:>11}", call.name())?;
+        }
+        writeln!(out)?;
+        for number in 0..NUMBERS {
+            if columns.iter().all(|call| self.seen(*call, number) == 0) {
+                continue;
+            }
+            write!(out, "{number:>6}")?;
+            for call in columns {
+                write!(out, " {:>11}", self.seen(*call, number))?;
+            }
+            writeln!(out)?;
+        }
+        Ok(())
     }
 }

@@ -10,5 +10,5 @@ mod table;
 use cells::stored_cell;
 pub use image::{TableImage, UsedBlock};
 pub use index::{index_for, tree, IndexImage, IndexShape, Leaf};
-pub use shape::{Shape, StoredField};
+pub use shape::{any_field, Shape, StoredField};
 pub use table::{huge_table, small_table, table};

@@ -139,6 +139,11 @@ fn random_fields(random: &mut Random, most: usize, key_fields: usize) -> Vec<Sto
     fields
 }
 
+/// A random field that need not suit a key.
+pub fn any_field(random: &mut Random) -> StoredField {
+    random_field(random, false, false)
+}
+
 fn random_field(random: &mut Random, narrow: bool, in_key: bool) -> StoredField {
     let code = match (narrow, in_key) {
         (true, _) => random.pick(&NARROW_CODES),

@@ -1,6 +1,6 @@
 //! Field kinds and rule 7 (document 01, "Field rules").
 
-use super::{Header, Refusal};
+use super::{Header, Part, Refusal};
 use crate::codes;
 use crate::layout::{field_area, names, MOST_NAME};
 
@@ -28,6 +28,8 @@ pub enum Kind {
 /// One field of a table.
 #[derive(Clone, Copy, Debug, PartialEq, Eq)]
 pub struct Field {
+    /// The type code.
+    pub code: u8,
     /// What its cells mean.
     pub kind: Kind,
     /// Bytes in each cell.
@@ -50,13 +52,29 @@ impl Field {
             _ => return None,
         };
         let width = usize::from(width);
-        widths.contains(&width).then_some(Field { kind, width })
+        widths
+            .contains(&width)
+            .then_some(Field { code, kind, width })
     }
 }
 
-/// The stored types and widths, two bytes a field, and the key length of a table that keeps rule 7.
+/// A field beside where its cells and its name are.
+#[derive(Clone, Copy, Debug, PartialEq, Eq)]
+pub struct PlacedField {
+    /// The field.
+    pub field: Field,
+    /// Where its cells begin in a record.
+    pub offset: usize,
+    /// Its name, the ending zero apart.
+    pub name: Part,
+}
+
+/// The stored types and widths, two bytes a field, the names and the key length of a table that
+/// keeps rule 7.
 pub struct Fields<'a> {
     stored: &'a [u8],
+    named: &'a [u8],
+    names: usize,
     /// The widths of the key fields, added up.
     pub key_length: usize,
 }
@@ -83,9 +101,15 @@ impl<'a> Fields<'a> {
                 key_length += field.width;
             }
         }
-        let named = inside.get(names(header.version, header.fields)..)?;
+        let names = names(header.version, header.fields);
+        let named = inside.get(names..)?;
         let good = widths == header.record_size && names_fit(named, header.fields);
-        good.then_some(Fields { stored, key_length })
+        good.then_some(Fields {
+            stored,
+            named,
+            names,
+            key_length,
+        })
     }
 
     /// The fields in their order.
@@ -93,6 +117,36 @@ impl<'a> Fields<'a> {
         self.stored
             .chunks_exact(2)
             .filter_map(|pair| Field::from_stored(pair[0], pair[1]))
+    }
+
+    /// The field of a number, from 1, and where its cells begin in a record.
+    pub fn get(&self, number: usize) -> Option<(Field, usize)> {
+        let before = number.checked_sub(1)?;
+        let field = self.iter().nth(before)?;
+        let offset = self.iter().take(before).map(|field| field.width).sum();
+        Some((field, offset))
+    }
+
+    /// The field of a number, from 1, with its name.
+    pub fn placed(&self, number: usize) -> Option<PlacedField> {
+        let (field, offset) = self.get(number)?;
+        let name = self.name_parts().nth(number - 1)?;
+        Some(PlacedField {
+            field,
+            offset,
+            name,
+        })
+    }
+
+    /// The names in their order, and whatever zero-ended bytes stand behind them.
+    fn name_parts(&self) -> impl Iterator<Item = Part> + 'a {
+        let mut start = self.names;
+        self.named.split(|&byte| byte == 0).map(move |name| {
+            let length = name.len();
+            let part = Part { start, length };
+            start += length + 1;
+            part
+        })
     }
 }
 

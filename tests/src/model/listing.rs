@@ -31,35 +31,28 @@ fn list(table: &Table, output: &mut Vec<u8>) {
         ),
     );
     for (number, block) in table.used_blocks() {
-        for (place, record) in block.records().into_iter().flatten().enumerate() {
+        for place in 0..block.record_count().unwrap_or(0) {
             print(output, format_args!("{number}.{place}"));
-            list_record(table, record, output);
+            let cells = table.record(number.into(), place);
+            for cell in cells.into_iter().flatten() {
+                output.push(b'|');
+                list_cell(table, cell, output);
+            }
+            output.push(b'\n');
         }
     }
 }
 
-fn list_record(table: &Table, mut record: &[u8], output: &mut Vec<u8>) {
-    for field in table.fields() {
-        let (stored, rest) = record.split_at(field.width);
-        record = rest;
-        output.push(b'|');
-        match field.read(stored) {
-            Ok(cell) => list_cell(cell, output),
-            Err(refusal) => print(output, format_args!("!{}", refusal.number())),
-        }
-    }
-    output.push(b'\n');
-}
-
-fn list_cell(cell: Cell, output: &mut Vec<u8>) {
+fn list_cell(table: &Table, cell: Result<Cell, Refusal>, output: &mut Vec<u8>) {
     match cell {
-        Cell::Blank => {}
-        Cell::Text(text) => output.extend_from_slice(text),
-        Cell::Date(day) => print(output, format_args!("{day}")),
-        Cell::Short(value) => print(output, format_args!("{value}")),
-        Cell::Long(value) => print(output, format_args!("{value}")),
-        Cell::Double(value) => print(output, format_args!("{:016x}", value.to_bits())),
-        Cell::Logical(value) => output.push(if value { b'T' } else { b'F' }),
+        Ok(Cell::Blank) => {}
+        Ok(Cell::Text(text)) => output.extend_from_slice(table.part(text)),
+        Ok(Cell::Date(day)) => print(output, format_args!("{day}")),
+        Ok(Cell::Short(value)) => print(output, format_args!("{value}")),
+        Ok(Cell::Long(value)) => print(output, format_args!("{value}")),
+        Ok(Cell::Double(value)) => print(output, format_args!("{:016x}", value.to_bits())),
+        Ok(Cell::Logical(value)) => output.push(if value { b'T' } else { b'F' }),
+        Err(refusal) => print(output, format_args!("!{}", refusal.number())),
     }
 }
 

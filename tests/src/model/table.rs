@@ -1,7 +1,17 @@
 //! A table, and the table check (document 01, "The table").
 
 use super::fields::Fields;
-use super::{chain, counts, keys, Block, Blocks, Field, Header, Refusal};
+use super::{chain, counts, keys, Block, Blocks, Field, Header, PlacedField, Refusal};
+use crate::layout::BLOCK_HEAD;
+
+/// A part of a table.
+#[derive(Clone, Copy, Debug, PartialEq, Eq)]
+pub struct Part {
+    /// Where it begins, from the table's first byte.
+    pub start: usize,
+    /// Its bytes.
+    pub length: usize,
+}
 
 /// A table that keeps rules 1 to 7.
 pub struct Table<'a> {
@@ -9,7 +19,8 @@ pub struct Table<'a> {
     pub header: Header,
     /// Its blocks, used and free.
     pub blocks: Blocks<'a>,
-    fields: Fields<'a>,
+    pub(super) bytes: &'a [u8],
+    pub(super) fields: Fields<'a>,
 }
 
 impl<'a> Table<'a> {
@@ -21,13 +32,24 @@ impl<'a> Table<'a> {
         Ok(Table {
             blocks: Blocks::new(area, header.block_size, header.record_size),
             header,
+            bytes,
             fields,
         })
+    }
+
+    /// The bytes of a part.
+    pub fn part(&self, part: Part) -> &'a [u8] {
+        &self.bytes[part.start..part.start + part.length]
     }
 
     /// The fields in their order.
     pub fn fields(&self) -> impl Iterator<Item = Field> + 'a {
         self.fields.iter()
+    }
+
+    /// The field of a number, from 1.
+    pub fn field(&self, number: usize) -> Result<PlacedField, Refusal> {
+        self.fields.placed(number).ok_or(Refusal::Argument)
     }
 
     /// The widths of the key fields, added up.
@@ -48,6 +70,19 @@ impl<'a> Table<'a> {
             numbered(block.next())
         })
         .take(self.header.blocks.into())
+    }
+
+    /// Where the record of a block (from 1) and a place (from 0) begins: 13 for no such block, 9 for
+    /// its bad count, 13 for no such place.
+    pub fn record_start(&self, block: usize, place: usize) -> Result<usize, Refusal> {
+        let number = u16::try_from(block).map_err(|_| Refusal::Argument)?;
+        let held = self.blocks.get(number).ok_or(Refusal::Argument)?;
+        let count = held.record_count().ok_or(Refusal::Count)?;
+        if place >= count {
+            return Err(Refusal::Argument);
+        }
+        let head = self.header.header_size + (block - 1) * self.header.block_size;
+        Ok(head + BLOCK_HEAD + place * self.header.record_size)
     }
 
     /// Rule 13 of the lookups: the table has key fields and the key has their length.

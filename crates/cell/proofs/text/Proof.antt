@@ -4,8 +4,8 @@ use native.Mathlib.Omega.{arith}
 use mathlib.Core.Path.{_≡_, sym, ap, _∙_, subst}
 use Prim.Native.Nat.{ℕ, _+_, _-_, _≤_}
 use lib.ListN.{length, take, drop}
-use Rattle.words.specs.Order.{range}
-use Rattle.cell.specs.Values.{partOf, behind}
+use Rattle.words.specs.Order.{range, behind}
+use Rattle.cell.specs.Values.{partOf}
 use Rattle.cell.specs.declared.part.Part.{Part}
 use Rattle.cell.proofs.PlaceLaws.{part-inside, text-bytes}
 use Rattle.cell.specs.Reading.{cellOf}

@@ -64,16 +64,13 @@ unfolding Permitted
 number-requires c κs =
     let s = c .before .before .before .before .before .before .before in
     let w : s .args .width ≡ 4 = permitted s Kin.Date (c .enum-told2 .given .1) in
-    (omega arith, s .pre .1)
+    (omega arith, omega (arith, w, s .pre .1))
 
 date-of-requires : tie.Need-date-of-requires
-unfolding Permitted
 date-of-requires c κs =
     let v = c .before .before .before .before .before .before .before .before .args in
-    number-below (v .t .now) (v .at) (v .width) 4 (bytes (c .before .before .before .before .before))
-    (c .number .result)
-    (permitted (c .before .before .before .before .before .before .before .before) Kin.Date
-    (c .before .enum-told2 .given .1)) (c .number .ensures)
+    number-below (v .t .now) (v .at) 4 (bytes (c .before .before .before .before .before)) (c .number .result)
+    (c .number .ensures)
 
 enum-told-3 : tie.Need-enum-told-3
 enum-told-3 c = search needs
@@ -83,16 +80,13 @@ unfolding Permitted
 number-requires-2 c κs =
     let s = c .before .before .before .before .before .before .before in
     let w : s .args .width ≡ 2 = permitted s Kin.Short (c .enum-told3 .given .1) in
-    (omega arith, s .pre .1)
+    (omega arith, omega (arith, w, s .pre .1))
 
 short-of-requires : tie.Need-short-of-requires
-unfolding Permitted
 short-of-requires c κs =
     let v = c .before .before .before .before .before .before .before .before .args in
-    number-below (v .t .now) (v .at) (v .width) 2 (bytes (c .before .before .before .before .before))
-    (c .number2 .result)
-    (permitted (c .before .before .before .before .before .before .before .before) Kin.Short
-    (c .before .enum-told3 .given .1)) (c .number2 .ensures)
+    number-below (v .t .now) (v .at) 2 (bytes (c .before .before .before .before .before)) (c .number2 .result)
+    (c .number2 .ensures)
 
 enum-told-4 : tie.Need-enum-told-4
 enum-told-4 c = search needs
@@ -102,16 +96,13 @@ unfolding Permitted
 number-requires-3 c κs =
     let s = c .before .before .before .before .before .before .before in
     let w : s .args .width ≡ 4 = permitted s Kin.Long (c .enum-told4 .given .1) in
-    (omega arith, s .pre .1)
+    (omega arith, omega (arith, w, s .pre .1))
 
 long-of-requires : tie.Need-long-of-requires
-unfolding Permitted
 long-of-requires c κs =
     let v = c .before .before .before .before .before .before .before .before .args in
-    number-below (v .t .now) (v .at) (v .width) 4 (bytes (c .before .before .before .before .before))
-    (c .number3 .result)
-    (permitted (c .before .before .before .before .before .before .before .before) Kin.Long
-    (c .before .enum-told4 .given .1)) (c .number3 .ensures)
+    number-below (v .t .now) (v .at) 4 (bytes (c .before .before .before .before .before)) (c .number3 .result)
+    (c .number3 .ensures)
 
 enum-told-5 : tie.Need-enum-told-5
 enum-told-5 c = search needs
@@ -121,7 +112,7 @@ unfolding Permitted
 number-requires-4 c κs =
     let s = c .before .before .before .before .before .before .before in
     let w : s .args .width ≡ 8 = permitted s Kin.Number (c .enum-told5 .given .1) in
-    (omega arith, s .pre .1)
+    (omega arith, omega (arith, w, s .pre .1))
 
 number-of-requires : tie.Need-number-of-requires
 number-of-requires c κs = search needs
@@ -134,7 +125,7 @@ unfolding Permitted
 number-requires-5 c κs =
     let s = c .before .before .before .before .before .before .before in
     let w : s .args .width ≡ 1 = permitted s Kin.Logical (c .enum-told6 .given .1) in
-    (omega arith, s .pre .1)
+    (omega arith, omega (arith, w, s .pre .1))
 
 logical-of-requires : tie.Need-logical-of-requires
 logical-of-requires c κs = search needs
@@ -195,7 +186,9 @@ returns-8 c =
     let v = c .before .before .before .before .before .before .before .before .before .args in
     let n = c .before .number5 in
     c .logical-of .ensures
-    ∙ cell-logical (v .t .now) (v .at) (v .width) (zero (c .before .before .before .before)) (n .result) (n .ensures)
+    ∙ cell-logical (v .t .now) (v .at) (v .width) (zero (c .before .before .before .before))
+    (permitted (c .before .before .before .before .before .before .before .before .before) Kin.Logical
+    (c .before .before .enum-told6 .given .1)) (n .result) (n .ensures)
     ∙ ap (λ (k : FieldKind). cellAt k (v .t .now) (v .at) (v .width)) (sym (c .before .before .enum-told6 .given .1))
 
 returns-9 : tie.Need-returns-9

@@ -1,31 +1,19 @@
 -- `long_shifted` meets its contract: the number and its top added is at least 0. Assumes nothing.
-use mathlib.Core.Path.{refl}
-use lib.Dec.{lit≤}
 use mir.Syntax.{w32}
-use Rattle.cell.proofs.SignedCasts.{wide-fits, sum-fits, total, total-fits}
+use mir.ValLaws.{toZ-ofZ}
 use Rattle.listing.proofs.CellLaws.{shifted-is}
 use borrow.Author.Needs.{needs}
 use Rattle.listing.proofs.cells.long_shifted.Statement.{statement}
 use Rattle.listing.proofs.cells.long_shifted.Tie as tie
 
-cast-result : tie.Need-cast-result
-cast-result c = wide-fits w32 (c .args .z) 2147483648 (c .fits .z) refl (lit≤ tt)
-
-cast-result-2 : tie.Need-cast-result-2
-cast-result-2 c = search needs
-
-add-result : tie.Need-add-result
-add-result c = sum-fits w32 (c .args .z) 2147483648 (c .fits .z) refl (lit≤ tt)
-
-cast-result-3 : tie.Need-cast-result-3
-cast-result-3 c =
-    rw (total w32 (c .args .z) 2147483648 (c .fits .z) refl (lit≤ tt))
-    (tt, total-fits w32 (c .args .z) 2147483648 (c .fits .z) refl (lit≤ tt))
+shifted-long-requires : tie.Need-shifted-long-requires
+shifted-long-requires c κs = search needs
 
 returns : tie.Need-returns
 returns c =
-    rw (total w32 (c .args .z) 2147483648 (c .fits .z) refl (lit≤ tt))
-    (shifted-is 2147483648 (c .args .z) (c .fits .z .sfits))
+    let s = c .before in
+    rw (c .shifted-long .ensures, toZ-ofZ w32 (s .args .z) (s .fits .z))
+    (shifted-is 2147483648 (s .args .z) (s .fits .z .sfits))
 
 pub long-shifted-spec : {M : Type 1} → statement M
-long-shifted-spec = tie.close (tie.spec cast-result cast-result-2 add-result cast-result-3 returns)
+long-shifted-spec = tie.close (tie.spec shifted-long-requires returns)

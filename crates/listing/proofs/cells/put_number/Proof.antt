@@ -1,5 +1,5 @@
 -- `put_number` meets its contract: a finite number is no not-a-number. Assumes nothing.
-use Rattle.listing.proofs.CellLaws.{finite-number}
+use Rattle.cell.proofs.DoubleLaws.{finite-number}
 use borrow.Author.Needs.{needs}
 use Rattle.listing.proofs.cells.put_number.Statement.{statement}
 use Rattle.listing.proofs.cells.put_number.Tie as tie

@@ -6,10 +6,10 @@ use Rattle.pair_test.proofs.cases.run.Statement.{statement}
 use Rattle.pair_test.proofs.cases.run.Tie as tie
 
 abbrev Inv-loop : tie.InvT-loop
-Inv-loop lines t₀ first₀ lent₀ line₀ span₀ i₀ t first lent line span i = i ≤ length lines
+Inv-loop lines t₀ first₀ lent₀ line₀ i₀ t first lent line i = i ≤ length lines
 
 abbrev μ-loop : tie.MeasureT-loop
-μ-loop lines t₀ first₀ lent₀ line₀ span₀ i₀ t first lent line span i = length lines - i
+μ-loop lines t₀ first₀ lent₀ line₀ i₀ t first lent line i = length lines - i
 
 ready-requires : tie.Need-ready-requires Inv-loop μ-loop
 ready-requires c κs = search needs
@@ -28,9 +28,6 @@ kept-requires c κs = search needs
 
 feed-requires : tie.Need-feed-requires Inv-loop μ-loop
 feed-requires c κs = search needs
-
-given-requires : tie.Need-given-requires Inv-loop μ-loop
-given-requires c κs = search needs
 
 act-requires : tie.Need-act-requires Inv-loop μ-loop
 act-requires c κs = search needs
@@ -59,7 +56,6 @@ run-spec =
     add-i
     kept-requires
     feed-requires
-    given-requires
     act-requires
     after-requires
     loop-less

@@ -1,0 +1,9 @@
+pub mod LentLaws
+pub mod FieldLaws
+pub mod KindLaws
+pub mod CellLaws
+pub mod RecordLaws
+pub mod CursorLaws
+pub mod CameLaws
+pub mod GivenLaws
+pub mod RefusalLaws

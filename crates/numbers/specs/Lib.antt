@@ -1,0 +1,7 @@
+pub mod What
+pub mod Lent
+pub mod Header
+pub mod Cells
+pub mod Cursor
+pub mod Given
+pub mod Steps
