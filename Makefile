@@ -26,6 +26,7 @@ RUST = PARADOX_LIB=$(abspath $(PARADOX_LIB)) CARGO_TARGET_DIR=target/tests \
 define HELP
 make list FILE=samples/parts.db   print a table of at most 65,536 bytes, or why it is refused
 make export FILE=samples/parts.db write a table of any size as comma-separated values, or why it is refused
+make export FILE=.. MB=..         write it with its memos and other blobs, from the MB file
 make test                         prove everything from nothing and run every test, which takes a good while
 make lib                          prove and build target/staticlib/libparadox.a
 make example                      build the C examples, target/counter and target/export
@@ -44,7 +45,7 @@ libdir=$(abspath $(LIBDIR))
 includedir=$(abspath $(INCLUDEDIR))
 
 Name: paradox
-Description: Proved reader of Paradox tables and their primary indexes
+Description: Proved reader of Paradox tables, their primary indexes and their memos
 Version: $(VERSION)
 Cflags: -I$${includedir}
 Libs: -L$${libdir} -lparadox
@@ -78,8 +79,9 @@ list:
 
 export:
 	@$(call need_file,export)
+	@test -z "$(MB)" || test -f "$(MB)" || { echo 'There is no file $(MB).' >&2; exit 1; }
 	@$(MAKE) --no-print-directory --silent target/export
-	@target/export "$(FILE)"
+	@target/export "$(FILE)" $(if $(MB),"$(MB)")
 
 test:
 	@$(NEED_RT)

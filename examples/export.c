@@ -1,5 +1,6 @@
 /*
- * export TABLE: writes a table to standard output as comma-separated values (RFC 4180).
+ * export TABLE [MB]: writes a table to standard output as comma-separated values (RFC 4180), its blobs too where the MB
+ * file is named.
  */
 #include <paradox.h>
 
@@ -8,24 +9,28 @@
 enum {
     WRITTEN = 0,
     FAILED = 1,
-    MOST_OF_CELL = 1 + 2 * 255 + 2, /* a comma, then 255 quotes, each doubled, in quotes */
+    AROUND_TEXT = 3,                      /* a comma and two quotes */
+    MOST_OF_CELL = AROUND_TEXT + 2 * 255, /* 255 quotes, each doubled; a blob may take more */
     LINE_END = 2,
-    NUMBER_TEXT = 32 /* a double of 17 digits with its signs, point and exponent, and a zero */
+    NUMBER_TEXT = 32                      /* a double of 17 digits with its signs, point and exponent, and a zero */
 };
 
 static const char USAGE[] =
-    "usage: export TABLE\n"
+    "usage: export TABLE [MB]\n"
     "\n"
     "Checks the table and writes it to standard output as comma-separated values: the names of its fields, then a\n"
     "line for each record. Dates are YYYY-MM-DD, logicals TRUE or FALSE, and a blank is nothing; numbers read back\n"
-    "as they were. Memos and other blobs are not read yet: their fields are left out, with a note.\n"
+    "as they were. Memos and other blobs are written as texts where the MB file is named too. Else their fields are\n"
+    "left out, with a note.\n"
     "\n"
-    "All of it is written or nothing: a table that is refused, or a cell without meaning, stops the export.\n"
-    "Exit status: 0 written, 1 not.\n";
+    "All of it is written or nothing: a table that is refused, a cell without meaning or a blob that does not fit\n"
+    "the MB file stops the export. Exit status: 0 written, 1 not.\n";
 
-/* An export: the table, the fields that are written, and the text so far. */
+/* An export: the files, the fields that are written, and the text so far. */
 struct job {
     struct bytes table;
+    struct bytes mb;
+    int has_mb;                        /* whether one is named, so that blobs are written */
     struct bytes text;
     size_t fields;                     /* of a record */
     size_t columns;                    /* how many of them are written */
@@ -231,7 +236,27 @@ static int check_table(const struct bytes *table)
     return number == PARADOX_ACCEPTED || refused(number);
 }
 
-/* Takes a field as the next column, with its name in the first line, unless it is a blob. */
+/* Adds a text of any length as the next cell of a line. */
+static int add_text(struct job *job, size_t column, const uint8_t *text, size_t len)
+{
+    if (len > (SIZE_MAX - AROUND_TEXT) / 2 || !make_room(&job->text, AROUND_TEXT + 2 * len)) {
+        return no_memory();
+    }
+    uint8_t *to = put_text(put_comma(job->text.at + job->text.len, column), text, len);
+    job->text.len = (size_t)(to - job->text.at);
+    return 1;
+}
+
+static int add_line_end(struct job *job)
+{
+    if (!make_room(&job->text, LINE_END)) {
+        return no_memory();
+    }
+    job->text.len = (size_t)(put_line_end(job->text.at + job->text.len) - job->text.at);
+    return 1;
+}
+
+/* Takes a field as the next column, with its name in the first line, unless it is a blob and there is no MB file. */
 static int add_column(struct job *job, size_t field)
 {
     uint64_t numbers[PARADOX_FIELD_NUMBERS];
@@ -240,18 +265,13 @@ static int add_column(struct job *job, size_t field)
         return refused(number);
     }
     const uint8_t *name = paradox_name(job->table.at, numbers);
-    if (numbers[PARADOX_FIELD_KIND] == PARADOX_BLOB) {
-        fprintf(stderr, "field %s is left out: memos and other blobs are not read yet\n", (const char *)name);
+    if (numbers[PARADOX_FIELD_KIND] == PARADOX_BLOB && !job->has_mb) {
+        fprintf(stderr, "field %s is left out: to write memos and other blobs, name the MB file behind the table\n",
+                (const char *)name);
         return 1;
     }
-    if (!make_room(&job->text, MOST_OF_CELL + LINE_END)) {
-        return no_memory();
-    }
-    uint8_t *to = put_comma(job->text.at + job->text.len, job->columns);
-    to = put_text(to, name, paradox_name_length(numbers));
-    job->text.len = (size_t)(to - job->text.at);
-    job->field[job->columns++] = field;
-    return 1;
+    job->field[job->columns] = field;
+    return add_text(job, job->columns++, name, paradox_name_length(numbers));
 }
 
 /* Adds the first line: the names of the fields that are written. */
@@ -272,8 +292,7 @@ static int add_columns(struct job *job)
         fprintf(stderr, "no field is left to write\n");
         return 0;
     }
-    job->text.len = (size_t)(put_line_end(job->text.at + job->text.len) - job->text.at);
-    return 1;
+    return add_line_end(job);
 }
 
 /* Says which cell is refused, and why. */
@@ -286,6 +305,37 @@ static int refused_cell(const struct job *job, uint64_t cursor, size_t field, ui
     return refused(number);
 }
 
+/* Adds a blob of the record that the cursor stands on, as a text. */
+static int add_blob(struct job *job, uint64_t cursor, size_t column)
+{
+    uint64_t part[PARADOX_PART_NUMBERS];
+    uint32_t answer = paradox_blob(job->table.at, job->table.len, job->mb.at, job->mb.len, paradox_block(cursor),
+                                   paradox_place(cursor), job->field[column], part, PARADOX_PART_NUMBERS);
+    if (paradox_refusal(answer) != PARADOX_ACCEPTED) {
+        return refused_cell(job, cursor, job->field[column], paradox_refusal(answer));
+    }
+    const uint8_t *blob = paradox_blob_bytes(answer, job->table.at, job->mb.at, part);
+    return add_text(job, column, blob == NULL ? (const uint8_t *)"" : blob, paradox_blob_length(part));
+}
+
+/* Adds a cell of the record that the cursor stands on. */
+static int add_cell(struct job *job, uint64_t cursor, size_t column, const uint64_t *cell)
+{
+    uint32_t number = paradox_cell_refusal(cell);
+    if (number == PARADOX_BLOB_CELL) { /* its column is there, so there is an MB file */
+        return add_blob(job, cursor, column);
+    }
+    if (number != PARADOX_ACCEPTED) {
+        return refused_cell(job, cursor, job->field[column], number);
+    }
+    if (!make_room(&job->text, MOST_OF_CELL)) {
+        return no_memory();
+    }
+    uint8_t *to = put_cell(put_comma(job->text.at + job->text.len, column), job->table.at, cell);
+    job->text.len = (size_t)(to - job->text.at);
+    return 1;
+}
+
 /* Adds the line of the record that the cursor stands on. */
 static int add_record(struct job *job, uint64_t cursor)
 {
@@ -295,19 +345,12 @@ static int add_record(struct job *job, uint64_t cursor)
     if (number != PARADOX_ACCEPTED) {
         return refused(number);
     }
-    if (!make_room(&job->text, job->columns * MOST_OF_CELL + LINE_END)) {
-        return no_memory();
-    }
-    uint8_t *to = job->text.at + job->text.len;
     for (size_t i = 0; i < job->columns; i++) {
-        const uint64_t *cell = paradox_cell_of(cells, job->field[i]);
-        if (cell[PARADOX_CELL_WHAT] == PARADOX_REFUSED) {
-            return refused_cell(job, cursor, job->field[i], paradox_cell_refusal(cell));
+        if (!add_cell(job, cursor, i, paradox_cell_of(cells, job->field[i]))) {
+            return 0;
         }
-        to = put_cell(put_comma(to, i), job->table.at, cell);
     }
-    job->text.len = (size_t)(put_line_end(to) - job->text.at);
-    return 1;
+    return add_line_end(job);
 }
 
 /* Adds the lines of all records. */
@@ -334,17 +377,25 @@ static int write_text(const struct bytes *text)
     return 0;
 }
 
+/* Reads the files that are named: the table, and the MB file if there is a second name. */
+static int read_files(struct job *job, int count, char **names)
+{
+    job->has_mb = count > 1;
+    return read_file(names[0], &job->table) && (!job->has_mb || read_file(names[1], &job->mb));
+}
+
 int main(int argc, char **argv)
 {
     static struct job job;
     int written = 0;
-    if (argc != 2) {
+    if (argc != 2 && argc != 3) {
         fputs(USAGE, stderr);
     } else {
-        written = read_file(argv[1], &job.table) && check_table(&job.table) && add_columns(&job) && add_records(&job)
-            && write_text(&job.text);
+        written = read_files(&job, argc - 1, argv + 1) && check_table(&job.table) && add_columns(&job)
+            && add_records(&job) && write_text(&job.text);
     }
     free(job.text.at);
+    free(job.mb.at);
     free(job.table.at);
     return written ? WRITTEN : FAILED;
 }

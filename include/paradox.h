@@ -1,5 +1,6 @@
 /*
- * Reader of Paradox tables (DB) and their primary indexes (PX): calls over lent bytes. Link libparadox.a.
+ * Reader of Paradox tables (DB), their primary indexes (PX) and their memos and other blobs (MB): calls over lent
+ * bytes. Link libparadox.a.
  *
  * For each call:
  * - A buffer is a pointer and a length: in bytes beside a `uint8_t *`, in numbers beside a `uint64_t *`. Any bytes get
@@ -41,10 +42,11 @@ enum {
 
     /* cells, arguments and buffers */
     PARADOX_NO_MEANING = 11,       /* a cell's bytes have no meaning, or a value has no stored form */
-    PARADOX_BLOB_CELL = 12,        /* the cell is a memo or another blob */
+    PARADOX_BLOB_CELL = 12,        /* a memo or another blob; only from calls that are not lent an MB file */
     PARADOX_BAD_ARGUMENT = 13,     /* an argument doesn't fit: a block, place, field, key, type, value or cursor */
     PARADOX_SHORT_BUFFER = 14,     /* a lent buffer is too short: fewer marks than blocks, or no room for the answer */
     PARADOX_TOO_MANY_RECORDS = 16, /* more than 2,147,483,647 records: more than any table has room for */
+    PARADOX_UNFIT_BLOB = 18,       /* the MB file has no such blob as the cell says */
 
     /* the index */
     PARADOX_INDEX_TOO_SHORT = 21,  /* fewer than 88 bytes */
@@ -108,10 +110,10 @@ uint64_t paradox_walk(const uint8_t *table, size_t table_len, const uint8_t *ind
 
 /*
  * A lookup's answer in its parts. A refusal has 0 for every other part. A key that is absent has neither a refusal nor
- * a record: block and place are 0. Some of these functions also take what paradox_start and paradox_step give.
+ * a record: block and place are 0. Some of these functions also take what other calls give.
  */
 
-/* PARADOX_ACCEPTED, or the number of the refusal. Of a start's or a step's answer too. */
+/* PARADOX_ACCEPTED, or the number of the refusal. Of a start's, a step's or a blob's answer too. */
 static inline uint32_t paradox_refusal(uint64_t answer)
 {
     return (uint32_t)(answer & 0xff);
@@ -212,8 +214,8 @@ uint32_t paradox_field(const uint8_t *table, size_t table_len, size_t field, uin
 
 /*
  * The cell at a block (from 1), a place (from 0) and a field (from 1): PARADOX_CELL_NUMBERS numbers. Its own refusals
- * are, in this order: 13 for no such block or field, 9 for the block's count, 13 for no such place, 12 for a blob,
- * 11 for bytes without meaning. Whether the block is used is not judged.
+ * are, in this order: 13 for no such block or field, 9 for the block's count, 13 for no such place, 12 for a blob
+ * (paradox_blob reads it), 11 for bytes without meaning. Whether the block is used is not judged.
  */
 uint32_t paradox_cell(const uint8_t *table, size_t table_len, size_t block, size_t place, size_t field,
                       uint64_t *cell, size_t cell_len);
@@ -293,6 +295,80 @@ static inline const uint8_t *paradox_text(const uint8_t *table, const uint64_t *
 static inline size_t paradox_text_length(const uint64_t *cell)
 {
     return (size_t)cell[PARADOX_CELL_LENGTH];
+}
+
+/* ---- Memos and other blobs ---- */
+
+/*
+ * The cell of a blob is a leader and ten bytes behind it: offset, length and modification number. A blob no longer than
+ * the leader is the leader's first bytes, a part of the table. Any other is a part of the MB file, in a block of its
+ * own or in a suballocated block, where an entry names it.
+ */
+
+/* In which file a blob stands. */
+enum {
+    PARADOX_IN_NEITHER,   /* 0: the cell is blank, or the call has refused */
+    PARADOX_IN_TABLE,     /* 1: in the leader */
+    PARADOX_IN_MB         /* 2: in the MB file */
+};
+
+/* Where the numbers of a part stand, and how many there are. */
+enum {
+    PARADOX_PART_START,   /* where it begins in its file */
+    PARADOX_PART_LENGTH,  /* in bytes */
+    PARADOX_PART_NUMBERS  /* how many there are */
+};
+
+/*
+ * Where the blob at a block (from 1), a place (from 0) and a field (from 1) stands, with the whole MB file of the table
+ * lent as `mb`. The answer has a refusal, which paradox_refusal() takes, or the file, which paradox_blob_file() takes.
+ * No byte of the blob is copied: the functions below take the part from the lent file.
+ *
+ * Refuses, in this order: 1 to 7 of the table; 14 where `part` has fewer than PARADOX_PART_NUMBERS numbers; 13 for no
+ * such block or field, or a field that is no blob; 9 for the block's count; 13 for no such place; 18 where the
+ * cell's offset or length does not suit the MB file (the manual says how). Never 12 or 11. Of a blank cell and of a
+ * blob in the leader neither the offset nor the MB file is looked at. So `mb_len` may be 0: every blob that is not in
+ * the table is then 18.
+ *
+ * - An answer of 0 is a blank cell: every byte of it is 0, those of the leader too. Both numbers of the part are 0.
+ * - PARADOX_IN_TABLE: the part begins where the cell does, and is no longer than the leader. Its length may be 0, if
+ *   the cell is not all zeros.
+ * - PARADOX_IN_MB: the part is inside a block, behind its head and entries, and all units of the block are in the MB
+ *   file. Its length is what both the cell and the block or entry state.
+ *
+ * Nothing else of the MB file is judged: not its own header, not its length, no modification number, no other block.
+ * The leader of a blob in the MB file is not compared with it. Whether the table's block is used is not judged.
+ *
+ * With a refusal every number of `part` is 0, however long it is. Else the two numbers stand in front, and those behind
+ * are as they were.
+ */
+uint32_t paradox_blob(const uint8_t *table, size_t table_len, const uint8_t *mb, size_t mb_len,
+                      size_t block, size_t place, size_t field, uint64_t *part, size_t part_len);
+
+/* PARADOX_IN_TABLE or PARADOX_IN_MB; PARADOX_IN_NEITHER of a blank cell and of a refusal. */
+static inline uint32_t paradox_blob_file(uint32_t answer)
+{
+    return answer >> 8 & 0xff;
+}
+
+/* Where the blob begins, in `table` or in `mb`; NULL where it is in neither. No zero need follow it. */
+static inline const uint8_t *paradox_blob_bytes(uint32_t answer, const uint8_t *table, const uint8_t *mb,
+                                                const uint64_t *part)
+{
+    switch (paradox_blob_file(answer)) {
+    case PARADOX_IN_TABLE:
+        return table + part[PARADOX_PART_START];
+    case PARADOX_IN_MB:
+        return mb + part[PARADOX_PART_START];
+    default:
+        return NULL;
+    }
+}
+
+/* The length of the blob in bytes; 0 of a blank cell and of a refusal. */
+static inline size_t paradox_blob_length(const uint64_t *part)
+{
+    return (size_t)part[PARADOX_PART_LENGTH];
 }
 
 /* ---- A value written ---- */

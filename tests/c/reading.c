@@ -1,7 +1,7 @@
 /*
  * Header, fields, cells, records and cursors as C sees them: every lent number after answers and after refusals.
  */
-#include "common.h"
+#include "numbers.h"
 
 enum {
     FIELDS = 9,
@@ -11,8 +11,6 @@ enum {
     LENT = CELLS + 3, /* more numbers than any answer takes */
     NAMES_AT = 0x78 + 6 * FIELDS + NAMES_BEHIND_FIELDS
 };
-
-static const uint64_t BEFORE = 0x5a5a5a5a5a5a5a5a;
 
 static const struct field OF_TABLE[FIELDS] = {
     {0x01, 3, "Part"}, {0x03, 2, "Stock"}, {0x04, 4, "Sold"}, {0x02, 4, "Delivered"}, {0x05, 8, "Price"},
@@ -41,38 +39,6 @@ static uint8_t *make_table(void)
     set_block(table, 2, 0, 1, OAR, 1);
     set_block(table, 4, 0, 0, OAR, 1);
     return table;
-}
-
-/* Numbers to lend, none of them 0, in a buffer of exactly their length. */
-static uint64_t *lend(size_t count)
-{
-    uint64_t *numbers = (uint64_t *)(void *)zeros(count * sizeof *numbers);
-    for (size_t i = 0; i < count; i++) {
-        numbers[i] = BEFORE;
-    }
-    return numbers;
-}
-
-/* The numbers of an answer are these, and those behind them are as they were. Frees them. */
-static void expect_numbers(const char *what, uint64_t *numbers, size_t count, const uint64_t *wanted, size_t answer)
-{
-    size_t good = 0;
-    while (good < count && numbers[good] == (good < answer ? wanted[good] : BEFORE)) {
-        good++;
-    }
-    expect(what, good, count);
-    free(numbers);
-}
-
-/* Every number is the same one: 0 after most refusals. Frees them. */
-static void expect_all(const char *what, uint64_t *numbers, size_t count, uint64_t wanted)
-{
-    size_t good = 0;
-    while (good < count && numbers[good] == wanted) {
-        good++;
-    }
-    expect(what, good, count);
-    free(numbers);
 }
 
 static void header_refused(const char *what, const uint8_t *table, size_t len, size_t lent, uint32_t number)

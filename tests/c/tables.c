@@ -1,14 +1,14 @@
 /*
- * tables DIRECTORY: writes tables there that no sample is like, for the export program.
+ * tables DIRECTORY: writes tables and an MB file there that no sample is like, for the export program.
  */
 #include "common.h"
 
-static void write_table(const char *directory, const char *name, const uint8_t *table, size_t len)
+static void write_file(const char *directory, const char *name, const uint8_t *bytes, size_t len)
 {
     char path[4096];
     snprintf(path, sizeof path, "%s/%s", directory, name);
     FILE *file = fopen(path, "wb");
-    if (file == NULL || fwrite(table, 1, len, file) != len || fclose(file) != 0) {
+    if (file == NULL || fwrite(bytes, 1, len, file) != len || fclose(file) != 0) {
         perror(path);
         exit(2);
     }
@@ -24,8 +24,21 @@ static void write_records(const char *directory, const char *name, const struct 
     if (blocks > 0) {
         set_block(table, 1, 0, 0, (const uint8_t *)records, record_count);
     }
-    write_table(directory, name, table, file_len(blocks));
+    write_file(directory, name, table, file_len(blocks));
     free(table);
+}
+
+/* An MB file of no header and one block of its own, of two units, full of quotes. */
+static void write_quotes(const char *directory, const char *name)
+{
+    enum { UNIT = 4096, OWN = UNIT, BODY = OWN + 9, END = 3 * UNIT };
+    uint8_t *mb = zeros(END);
+    mb[OWN] = 0x02;
+    put_word(mb, OWN + 1, 2);
+    put_word(mb, OWN + 3, END - BODY);
+    memset(mb + BODY, '"', END - BODY);
+    write_file(directory, name, mb, END);
+    free(mb);
 }
 
 int main(int argc, char **argv)
@@ -44,6 +57,11 @@ int main(int argc, char **argv)
     write_records(argv[1], "memo.db", MEMO, 4,
                   "long ago..\0cog\0\0\0\0\0\0\0\0\0\0\x81" "\0\0\0\0\0\0\0\0\0\0\0nut0123456789\x80", 2);
     write_records(argv[1], "blobs.db", BLOBS, 2, "long ago..\0" "0123456789", 1);
+    write_records(argv[1], "quotes.db", BLOBS, 2,
+                  "\"\0\0\0\0\1\0\0\0\1\0" "\0\0\0\0\0\0\0\0\0\0"
+                  "\"\xff\x10\0\0\xf7\x1f\0\0\2\0" "\xff\x10\0\0\xf7\x1f\0\0\2\0"
+                  "x\0\0\0\0\0\0\0\0\0\0" "\0\0\0\0\0\0\0\0\1\0", 3);
+    write_quotes(argv[1], "quotes.mb");
     write_records(argv[1], "none.db", QUOTED, 3, NULL, 0);
     write_records(argv[1], "days.db", DAYS, 1, "\x80\x00\x8d\x40" "\0\0\0\0" "\x80\x0b\x1e\xcf" "\x80\x37\xb9\xdb", 4);
     write_records(argv[1], "day.db", DAYS, 1, "\x80\x00\x8d\x40" "\x80\x37\xb9\xdc", 2);

@@ -1,5 +1,7 @@
 //! The type codes of fields (document 01, "Field rules").
 
+use std::ops::RangeInclusive;
+
 /// Text.
 pub const TEXT: u8 = 0x01;
 /// A date.
@@ -20,6 +22,8 @@ pub const MEMO: u8 = 0x0C;
 pub const FIRST_BLOB: u8 = 0x0D;
 /// The last of the other blobs.
 pub const LAST_BLOB: u8 = 0x10;
+/// The codes of blobs.
+pub const BLOBS: RangeInclusive<u8> = MEMO..=LAST_BLOB;
 /// Every code that a key field may have.
 pub const OF_KEYS: [u8; 7] = [TEXT, DATE, SHORT, LONG, CURRENCY, NUMBER, LOGICAL];
 /// Every code.

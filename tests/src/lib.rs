@@ -1,4 +1,4 @@
-//! Independent tests of the Paradox library: a second implementation of document 01, files made by
+//! Independent tests of the Paradox library: a second implementation of its papers, files made by
 //! rule and broken by rule, and the comparison of the two over the C calls and the lister.
 
 pub mod bench;
@@ -9,6 +9,7 @@ pub mod expected;
 pub mod fence;
 pub mod generate;
 pub mod layout;
+pub mod mb;
 pub mod model;
 pub mod mutate;
 pub mod random;

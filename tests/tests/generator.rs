@@ -1,9 +1,11 @@
 //! The generator makes what it says, over the whole space of the rules.
 
 use brittomaz_tests::codes;
-use brittomaz_tests::generate::{index_for, table, TableImage};
+use brittomaz_tests::generate::{fill_blobs, index_for, table, TableImage};
 use brittomaz_tests::layout::{FIRST_VERSION, LAST_VERSION, LEVELS, MOST_LEVELS, VERSION};
-use brittomaz_tests::model::{pair_check, table_check};
+use brittomaz_tests::mb::{OWN_HEAD, UNIT};
+use brittomaz_tests::model::{blob, pair_check, table_check, Blob, Refusal, Table};
+use brittomaz_tests::mutate::{blob_faults, break_by};
 use brittomaz_tests::random::Random;
 use std::collections::BTreeSet;
 
@@ -86,4 +88,68 @@ fn every_layout_comes_up() {
         let full = image.shape.capacity() * image.shape.record_size();
         image.chain.iter().any(|block| block.records.len() == full)
     }));
+}
+
+/// The blobs of a table's used blocks, each as the model finds it.
+fn blobs_of(table: &[u8], mb: &[u8]) -> Vec<Result<Blob, Refusal>> {
+    let read = Table::read(table).expect("a table");
+    let fields = read.blob_fields();
+    let mut found = Vec::new();
+    for (number, block) in read.used_blocks() {
+        for place in 0..block.record_count().unwrap_or(0) {
+            let asked = |&field: &usize| read.blob(mb, number.into(), place, field);
+            found.extend(fields.iter().map(asked));
+        }
+    }
+    found
+}
+
+#[test]
+fn blobs_of_every_kind_come_up() {
+    let mut all = Vec::new();
+    for (mut image, mut random) in tables() {
+        let mb = fill_blobs(&mut random, &mut image);
+        let bytes = image.bytes();
+        assert!(table_check(&bytes, &mut [0; 256]).is_ok());
+        all.extend(blobs_of(&bytes, &mb));
+    }
+    let count =
+        |which: &dyn Fn(&Blob) -> bool| all.iter().flatten().filter(|blob| which(blob)).count();
+    let blank = count(&|blob| *blob == Blob::Blank);
+    let empty = count(&|blob| matches!(blob, Blob::InTable(part) if part.length == 0));
+    let held = count(&|blob| matches!(blob, Blob::InTable(part) if part.length > 0));
+    let own = count(&|blob| matches!(blob, Blob::InMb(part) if part.start % UNIT == OWN_HEAD));
+    let large = count(&|blob| matches!(blob, Blob::InMb(part) if part.length > UNIT));
+    let in_mb = count(&|blob| matches!(blob, Blob::InMb(_)));
+    for some in [blank, empty, held, own, large, in_mb - own] {
+        assert!(some > all.len() / 100, "{some} of {}", all.len());
+    }
+    let refused = all.len() - all.iter().flatten().count();
+    assert!(refused < all.len() / 10, "{refused} of {}", all.len());
+}
+
+/// Each fault leads to 18 at times and none always, but for two that never or hardly do: a length of
+/// 0, and other modification numbers.
+#[test]
+fn blobs_are_broken() {
+    let (mut never, mut always) = (0, 0);
+    for fault in blob_faults() {
+        let (mut unfit, mut all) = (0, 0);
+        for (mut image, mut random) in tables().take(400) {
+            let mut mb = fill_blobs(&mut random, &mut image);
+            let mut bytes = image.bytes();
+            let Some((block, place, field)) = break_by(fault, &mut bytes, &mut mb, &mut random)
+            else {
+                continue;
+            };
+            assert!(table_check(&bytes, &mut [0; 256]).is_ok());
+            all += 1;
+            let refused = blob(&bytes, &mb, block, place, field) == Err(Refusal::UnfitBlob);
+            unfit += usize::from(refused);
+        }
+        assert!(all > 50);
+        never += usize::from(unfit <= all / 10);
+        always += usize::from(unfit == all);
+    }
+    assert_eq!((never, always), (2, 0));
 }

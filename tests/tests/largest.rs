@@ -1,9 +1,11 @@
-//! The library and the model on the largest tables there can be: 32,767 blocks of 4 KB.
+//! The library and the model on the largest tables there can be, 32,767 blocks of 4 KB, and on an
+//! MB file with a block at the last offset.
 
-use brittomaz_tests::calls::{cursor_of, RECORD};
+use brittomaz_tests::calls::{cursor_of, IN_MB, RECORD};
 use brittomaz_tests::generate::{tree, IndexShape, Shape, StoredField, TableImage, UsedBlock};
-use brittomaz_tests::layout::{MOST_BLOCKS, MOST_UNITS, RECORDS};
-use brittomaz_tests::model::{Cursor, Stepped};
+use brittomaz_tests::layout::{put_word, MOST_BLOCKS, MOST_UNITS, RECORDS};
+use brittomaz_tests::mb::{put_long, OWN, OWN_LENGTH, UNIT, UNITS};
+use brittomaz_tests::model::{Cursor, Stepped, Table};
 use brittomaz_tests::{calls, codes, model};
 
 const MARKS: usize = MOST_BLOCKS as usize + 3;
@@ -131,5 +133,38 @@ fn farthest_place() {
             calls::place_of(walked),
             calls::scan(&table, &key, &mut marks)
         );
+    }
+}
+
+/// An unkeyed table of one blob, without a leader, in a block of its own at an offset.
+fn with_blob(offset: u32, length: u32) -> Vec<u8> {
+    let mut image = largest(10, 0, Vec::new());
+    image.shape.fields[0].code = codes::FIRST_BLOB;
+    let (offset, length) = (offset | 0xFF, length.to_le_bytes());
+    let records = [&offset.to_le_bytes(), &length, &[1, 0][..]].concat();
+    image.chain.push(UsedBlock { number: 1, records });
+    image.bytes()
+}
+
+/// The block's end is beyond 32 bits. Of the file's 4 GB only the head's page is ever touched.
+#[test]
+fn farthest_blob() {
+    const BASE: usize = u32::MAX as usize + 1 - UNIT;
+    const LENGTH: u32 = UNIT as u32 + 7;
+    let table = with_blob(BASE as u32, LENGTH);
+    let mut mb = vec![0; BASE + 2 * UNIT];
+    mb[BASE] = OWN;
+    put_word(&mut mb[BASE..], UNITS, 2);
+    put_long(&mut mb[BASE..], OWN_LENGTH, LENGTH);
+    let whole = mb.len();
+    let found = (IN_MB, [BASE as u64 + 9, LENGTH.into(), 7]);
+    let unfit = (18, [0; 3]);
+    for (length, expected) in [(whole, found), (whole - 1, unfit), (BASE + 9, unfit)] {
+        let (mut part, mut model_part, mb) = ([7; 3], [7; 3], &mb[..length]);
+        let answer = calls::blob(&table, mb, 1, 0, 1, &mut part);
+        assert_eq!((answer, part), expected);
+        let read = Table::read(&table);
+        let answer = calls::expected::blob(&read, mb, 1, 0, 1, &mut model_part);
+        assert_eq!((answer, model_part), expected);
     }
 }

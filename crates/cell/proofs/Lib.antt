@@ -1,3 +1,4 @@
+pub mod BlobLaws
 pub mod CopyLaws
 pub mod DoubleLaws
 pub mod Finite

@@ -1,6 +1,6 @@
 -- The definition of reading, one law for each answer. Assumes nothing.
 use mathlib.Core.Path.{_≡_, refl, sym, ap, _∙_}
-use mathlib.Core.Bool.{Bool, true, false, not, _&&_, true≢false}
+use mathlib.Core.Bool.{true, false, not, true≢false, and-false}
 use mathlib.Core.List.{List}
 use Prim.Native.Nat.{ℕ, _+_, _-_, _^_, _≤_, _<_}
 use native.Mathlib.Omega.{arith}
@@ -89,10 +89,6 @@ blob-value s at w Kin.Long e = absurd (true≢false (sym e))
 blob-value s at w Kin.Number e = absurd (true≢false (sym e))
 blob-value s at w Kin.Logical e = absurd (true≢false (sym e))
 blob-value s at w Kin.Blob e = refl
-
-and-false : (b : Bool) → (b && false) ≡ false
-and-false true = refl
-and-false false = refl
 
 module _ (kind : FieldKind) (s : List ℕ) (at w : ℕ) where
   pub cell-blob : isBlob kind ≡ true → Refused blobCell ≡ cellAt kind s at w

@@ -15,7 +15,7 @@ use Rattle.header.specs.declared.Header.{Header}
 use Rattle.header.specs.declared.kind.FieldKind.{FieldKind}
 use Rattle.header.specs.declared.kind.StoredKind.the-variants.{Kind}
 use Rattle.header.specs.declared.field.Field.{Field}
-use Rattle.header.specs.declared.field.Field.the-variants.{Missing}
+use Rattle.header.specs.declared.field.Field.the-variants.{Is, Missing}
 use Rattle.blocks.specs.Shape.{shapeOf, hasBlock, recordAt}
 use Rattle.blocks.specs.Counts.{countIn}
 use Rattle.blocks.specs.declared.Shape.{Shape}
@@ -47,6 +47,12 @@ abbrev pub placeRefusals : List ℕ
 placeRefusals = badArgument ∷ wrongCount ∷ []
 
 -- ---- what both steps give
+
+-- both steps find the cell at a block, a place and a field: its kind, its width and where it begins
+pub record BothSteps (t : List ℕ) (h : Header) (b p f : ℕ) (kind : FieldKind) (width at : ℕ) : Type 0 where
+  pub offset : ℕ
+  pub field : fieldAt t h b f ≡ Is kind width offset
+  pub place : placeAt t (shapeOf h) b p offset ≡ At at
 
 -- a located cell of an accepted table: the kind and width are the stored pair's, the kind permits the width, the cell
 -- begins behind the fields before it in its record, and it is inside the table

@@ -165,6 +165,18 @@ first-holds t refused others Holds refusals kept = go (headerRefusal t) refl (he
     go zero e w = kept (accepted t e)
     go (suc n) e w = refusals (suc n) (one-of-rest (suc n) 0 headerRefusals (λ z. omega arith) w)
 
+-- an answer that is none of their refusals is what comes after the rules, and they are kept
+pub first-only : {A : Type 0} (t : List ℕ) (refused : ℕ → A) (others answer : A) →
+    ((n : ℕ) → oneOf headerRefusals n ≡ true → refused n ≡ answer → ⊥) → headerFirst t refused others ≡ answer
+    → (headerRefusal t ≡ 0) × (others ≡ answer)
+unfolding headerFirst unlessRefused
+first-only t refused others answer apart = go (headerRefusal t) refl (header-refusals t)
+  where
+    go : (n : ℕ) → headerRefusal t ≡ n → oneOf (0 ∷ headerRefusals) n ≡ true → unlessRefused n refused others ≡ answer
+        → (headerRefusal t ≡ 0) × (others ≡ answer)
+    go zero e w a = (e, a)
+    go (suc n) e w a = absurd (apart (suc n) (one-of-rest (suc n) 0 headerRefusals (λ z. omega arith) w) a)
+
 -- ---- a field
 
 module _ (t : List ℕ) (h : Header) (f : ℕ) where

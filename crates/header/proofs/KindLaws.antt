@@ -1,13 +1,13 @@
 -- The table of field kinds, looked up. Assumes nothing.
 use Prim.Native.Nat.{ℕ, _≤_, _<_}
-use mathlib.Core.Path.{_≡_, refl}
-use mathlib.Core.Bool.{Bool, true, false, cond, _&&_}
+use mathlib.Core.Path.{_≡_, refl, sym}
+use mathlib.Core.Bool.{Bool, true, false, cond, _&&_, true≢false}
 use mathlib.Core.List.{List, [], _∷_}
 use native.Mathlib.Nat.{le-antisymm}
 use native.Mathlib.Omega.{arith}
 use lib.Dec.{eqb, leb}
 use borrow.Author.Tests.{ne-eqb, le-leb, lt-leb, leb-true, leb-false}
-use Rattle.header.specs.Kinds.{Row, row, kinds, permit, kindIn, kindOf, Permitted}
+use Rattle.header.specs.Kinds.{Row, row, kinds, permit, kindIn, kindOf, isBlob, Permitted}
 use Rattle.header.specs.declared.kind.FieldKind.{FieldKind}
 use Rattle.header.specs.declared.kind.FieldKind.the-variants.{Text, Date, Short, Long, Number, Logical, Blob}
 use Rattle.header.specs.declared.kind.StoredKind.{StoredKind}
@@ -150,3 +150,16 @@ known-width code width h = go (kindOf code width) refl
     go : (k : StoredKind) → kindOf code width ≡ k → 1 ≤ width
     go Unknown e = absurd (h e)
     go (Kind kind) e = permitted-some kind width (kind-width code width kind e)
+
+-- ---- blobs
+
+-- they are one kind
+pub blob-kind : (kind : FieldKind) → isBlob kind ≡ true → kind ≡ Blob
+unfolding isBlob
+blob-kind Text e = absurd (true≢false (sym e))
+blob-kind Date e = absurd (true≢false (sym e))
+blob-kind Short e = absurd (true≢false (sym e))
+blob-kind Long e = absurd (true≢false (sym e))
+blob-kind Number e = absurd (true≢false (sym e))
+blob-kind Logical e = absurd (true≢false (sym e))
+blob-kind Blob e = refl

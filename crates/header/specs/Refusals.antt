@@ -1,4 +1,4 @@
--- Document 01's refusal numbers. A check that accepts answers 0. Definitions only.
+-- The refusal numbers of document 01 and of what joined it. A check that accepts answers 0. Definitions only.
 use Prim.Native.Nat.{ℕ}
 use mathlib.Core.Bool.{Bool, false, cond, _||_}
 use mathlib.Core.List.{List, [], _∷_}
@@ -52,6 +52,9 @@ shortBuffer = 14
 
 abbrev pub tooManyRecords : ℕ
 tooManyRecords = 16
+
+abbrev pub unfitBlob : ℕ
+unfitBlob = 18
 
 -- ---- the index file
 

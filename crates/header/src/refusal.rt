@@ -1,4 +1,4 @@
-// Document 01's refusal numbers. A check that accepts answers ACCEPTED.
+// The refusal numbers of document 01 and of what joined it. A check that accepts answers ACCEPTED.
 pub const ACCEPTED: u8 = 0;
 
 // Table rules, in the order in which they are tried (14 comes between 7 and 8).
@@ -32,6 +32,9 @@ pub const BAD_ARGUMENT: u8 = 13;
 pub const SHORT_BUFFER: u8 = 14;
 
 pub const TOO_MANY_RECORDS: u8 = 16;
+
+// The MB file has no such blob as the cell says.
+pub const UNFIT_BLOB: u8 = 18;
 
 // The index file.
 pub const INDEX_TOO_SHORT: u8 = 21;

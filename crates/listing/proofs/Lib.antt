@@ -1,3 +1,4 @@
+pub mod BlobLaws
 pub mod CellLaws
 pub mod LineLaws
 pub mod HeadLaws

@@ -3,7 +3,9 @@ pub mod FieldLaws
 pub mod KindLaws
 pub mod CellLaws
 pub mod RecordLaws
+pub mod BlobLaws
 pub mod CursorLaws
 pub mod CameLaws
 pub mod GivenLaws
 pub mod RefusalLaws
+pub mod BlobRefusals

@@ -1,4 +1,5 @@
 // What the calls answer, as numbers in lent memory: for programs that have neither enums nor structs of ours.
+mod blobs;
 mod cells;
 mod cursors;
 mod fields;
@@ -8,6 +9,7 @@ mod list;
 mod run;
 mod what;
 
+pub use blobs::of_blob;
 pub use cells::of_cell;
 pub use cells::of_record;
 pub use cursors::start;

@@ -7,6 +7,7 @@ ghost use Rattle.scan.specs.Scan.{scanMarks};
 ghost use Rattle.pair.specs.Pair.{pairAnswer, pairMarks};
 ghost use Rattle.numbers.specs.Header.{fieldNumbers, headerNumbers};
 ghost use Rattle.numbers.specs.Cells.{cellNumbers, recordNumbers};
+ghost use Rattle.numbers.specs.Blob.{blobIn};
 ghost use Rattle.numbers.specs.Cursor.{startLent, stepLent};
 ghost use Rattle.numbers.specs.Given.{writeGiven};
 ghost use Rattle.paradox.specs.Packing.{ScanUnpacked, Unpacked, WalkUnpacked, packed, packedScan, packedWalk};
@@ -88,6 +89,21 @@ pub extern "C" fn paradox_record(table: &[u8], block: usize, place: usize, cells
     ensures { λ r. ⌜ (r, now (cells .exit)) ≡ recordNumbers (now (table .entry)) block place (now (cells .entry)) ⌝ }
 {
     numbers::of_record(table, block, place, cells) as u32
+}
+
+// The file in which a blob is, 0 for a blank, and the part of it; or the refusal's number with every lent number 0.
+#[no_mangle]
+pub extern "C" fn paradox_blob(
+    table: &[u8],
+    mb: &[u8],
+    block: usize,
+    place: usize,
+    field: usize,
+    part: &mut [u64],
+) -> u32
+    ensures { λ r. ⌜ (r, now (part .exit)) ≡ blobIn (table .entry) (mb .entry) block place field (now (part .entry)) ⌝ }
+{
+    numbers::of_blob(table, mb, block, place, field, part)
 }
 
 // Writes a value as a cell to the front of a buffer: 0, or the refusal's number with the buffer as it was.

@@ -3,6 +3,7 @@ use Prim.Native.Nat.{ℕ, _≤_, _<_}
 use mathlib.Core.Path.{_≡_, refl}
 use mathlib.Core.Bool.{Bool, true, false, cond}
 use mathlib.Core.Logic.{_⊎_, inl, inr}
+use native.Mathlib.Omega.{arith}
 use lib.Dec.{ltb}
 use borrow.Author.Tests.{ltb-true, ltb-false}
 
@@ -13,6 +14,10 @@ lt-or-ge n m = go (ltb n m) refl
     go : (t : Bool) → ltb n m ≡ t → (n < m) ⊎ (m ≤ n)
     go true e = inl (ltb-true n m e)
     go false e = inr (ltb-false n m e)
+
+-- what follows where two numbers are the same that are not
+pub apart : {X : Type 0} → _≡_ {A = ℕ} 0 1 → X
+apart e = absurd (omega (arith, e))
 
 pub cond-same : {A : Type 0} (c : Bool) (x : A) → cond c x x ≡ x
 cond-same true x = refl

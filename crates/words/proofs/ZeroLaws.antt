@@ -13,7 +13,7 @@ use lib.ListN.{length, replicate, length-replicate, getD-replicate, List·getD-a
 use lib.Seq.{ext-getD, getD-append-add}
 use borrow.Author.Tests.{eq-eqb, ne-eqb, eqb-true, eqb-false, ltb-true, ltb-false}
 use Rattle.words.specs.Each.{each}
-use Rattle.words.specs.Numbers.{byte, big}
+use Rattle.words.specs.Numbers.{byte, little, big}
 use Rattle.words.specs.Order.{range}
 use Rattle.words.specs.Zeros.{allZero, beforeZero}
 use Rattle.words.proofs.EachLaws.{each-gives, each-takes, each-fails}
@@ -138,6 +138,16 @@ zero-number s at (suc w) =
     go : (n b : ℕ) → (eqb n 0 && eqb b 0) ≡ eqb (n * 256 + b) 0
     go zero b = let e : 0 * 256 + b ≡ b = omega arith in rw e
     go (suc n) b = rw (ne-eqb (suc n) 0 (omega arith)) (sym (ne-eqb (suc n * 256 + b) 0 (omega arith)))
+
+-- the same, low byte first, for zeros among others
+pub zero-little : (s : List ℕ) (at n i w : ℕ) → allZero s at n ≡ true → i + w ≤ n → little s (at + i) w ≡ 0
+unfolding little
+zero-little s at n i zero z l = refl
+zero-little s at n i (suc w) z l =
+    let e : at + i + w ≡ at + (i + w) = omega arith in
+    let b = eqb-true (byte s (at + (i + w))) 0
+    (each-gives (λ (j : ℕ). eqb (byte s (at + j)) 0) n z (i + w) (omega arith)) in
+    rw (zero-little s at n i w z (omega arith), e, b) (omega arith)
 
 -- ---- zeros as a list
 

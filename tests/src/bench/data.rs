@@ -1,12 +1,15 @@
-//! The tables that are measured, and their indexes of full blocks.
+//! The tables that are measured, their indexes of full blocks, and their MB files.
 
 use super::image::{items, parts, HEADER_SIZE};
+use super::memos::memos;
 use crate::generate::{tree, IndexShape, TableImage};
 use crate::random::Random;
 use std::io;
 use std::path::Path;
 
 const SEED: u64 = 64;
+/// Free units before each of 64 blocks of the large MB file: 1 MB.
+const MUCH_FREE: u16 = 256;
 
 /// Which table is measured.
 #[derive(Clone, Copy, Debug, PartialEq, Eq)]
@@ -19,11 +22,22 @@ pub enum Which {
     Large,
     /// 1,184 records of eight fields, 66 KB.
     Fields,
+    /// 128 memos, with an MB file of 264 KB.
+    Memos,
+    /// The same memos, with an MB file of 64 MB.
+    MemosLarge,
 }
 
 impl Which {
     /// Every table.
-    pub const ALL: [Which; 4] = [Which::Small, Which::Middle, Which::Large, Which::Fields];
+    pub const ALL: [Which; 6] = [
+        Which::Small,
+        Which::Middle,
+        Which::Large,
+        Which::Fields,
+        Which::Memos,
+        Which::MemosLarge,
+    ];
 
     /// The table's name.
     pub fn name(self) -> &'static str {
@@ -32,6 +46,8 @@ impl Which {
             Which::Middle => "5 MB",
             Which::Large => "64 MB",
             Which::Fields => "eight fields",
+            Which::Memos => "memos, MB file of 264 KB",
+            Which::MemosLarge => "memos, MB file of 64 MB",
         }
     }
 
@@ -42,6 +58,8 @@ impl Which {
             Which::Middle => "middle",
             Which::Large => "large",
             Which::Fields => "fields",
+            Which::Memos => "memos",
+            Which::MemosLarge => "memos-large",
         }
     }
 
@@ -52,32 +70,39 @@ impl Which {
             .find(|which| which.short_name() == name)
     }
 
-    fn image(self) -> TableImage {
+    /// The table, and the bytes of its MB file, none for a table without blobs.
+    fn files(self) -> (TableImage, Vec<u8>) {
         let mut random = Random::new(SEED);
-        match self {
+        let image = match self {
             Which::Small => parts(2, 31 * 41, &mut random),
             Which::Middle => parts(2, 100_000, &mut random),
             Which::Large => parts(4, 16_383 * 83, &mut random),
             Which::Fields => items(&mut random),
-        }
+            Which::Memos => return memos(0, &mut random),
+            Which::MemosLarge => return memos(MUCH_FREE, &mut random),
+        };
+        (image, Vec::new())
     }
 }
 
-/// A table and its index.
+/// A table, its index and its MB file.
 pub struct Data {
     /// The table's bytes.
     pub table: Vec<u8>,
     /// The index's bytes, none for a table without a key.
     pub index: Vec<u8>,
+    /// The MB file's bytes, none for a table without blobs.
+    pub mb: Vec<u8>,
 }
 
 impl Data {
     /// Makes the data of a table.
     pub fn make(which: Which) -> Data {
-        let image = which.image();
+        let (image, mb) = which.files();
         Data {
             table: image.bytes(),
             index: index(&image),
+            mb,
         }
     }
 
@@ -87,6 +112,7 @@ impl Data {
         Ok(Data {
             table: std::fs::read(path.with_extension("db"))?,
             index: std::fs::read(path.with_extension("px"))?,
+            mb: std::fs::read(path.with_extension("mb"))?,
         })
     }
 
@@ -95,7 +121,8 @@ impl Data {
         let path = directory.join(which.short_name());
         std::fs::create_dir_all(directory)?;
         std::fs::write(path.with_extension("db"), &self.table)?;
-        std::fs::write(path.with_extension("px"), &self.index)
+        std::fs::write(path.with_extension("px"), &self.index)?;
+        std::fs::write(path.with_extension("mb"), &self.mb)
     }
 }
 

@@ -10,7 +10,7 @@ pub const HEADER_SIZE: usize = 2048;
 const BLOCKS: usize = 16;
 
 /// A field: its name, type code and width.
-type NamedField = (&'static str, u8, u8);
+pub type NamedField = (&'static str, u8, u8);
 
 /// Code, description, price, stock, last delivery, on order: 49 bytes.
 const PART: [NamedField; 6] = [
@@ -54,7 +54,8 @@ pub fn items(random: &mut Random) -> TableImage {
     })
 }
 
-fn shape(units: u8, fields: &[NamedField], key_fields: usize) -> Shape {
+/// A shape of these fields, the first of them the key.
+pub fn shape(units: u8, fields: &[NamedField], key_fields: usize) -> Shape {
     let stored = |&(_, code, width): &NamedField| StoredField { code, width };
     let name = |&(name, ..): &NamedField| name.as_bytes().to_vec();
     Shape {
@@ -67,7 +68,8 @@ fn shape(units: u8, fields: &[NamedField], key_fields: usize) -> Shape {
     }
 }
 
-fn image(
+/// A table of so many records in full blocks.
+pub fn image(
     shape: Shape,
     records: usize,
     random: &mut Random,

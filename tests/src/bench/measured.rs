@@ -1,5 +1,6 @@
 //! The measured calls, behind two functions whose names a profiler can be told.
 
+use super::memos::MEMO_FIELD;
 use super::round::{round, Asked};
 use super::{Data, Task, Who};
 use crate::calls::{self, expected, CELL_NUMBERS};
@@ -18,7 +19,7 @@ pub struct Measured<'a> {
 }
 
 impl<'a> Measured<'a> {
-    /// A task on a table and its index.
+    /// A task on a table, its index and its MB file.
     pub fn new(task: Task, data: &'a Data) -> Measured<'a> {
         Measured {
             data,
@@ -54,7 +55,7 @@ impl<'a> Measured<'a> {
 #[inline(never)]
 #[no_mangle]
 pub extern "C" fn measured_ours(measured: &mut Measured) -> u64 {
-    let Data { table, index } = measured.data;
+    let Data { table, index, mb } = measured.data;
     let marks = &mut measured.marks;
     let numbers = &mut measured.numbers;
     black_box(match measured.round[measured.next] {
@@ -76,6 +77,10 @@ pub extern "C" fn measured_ours(measured: &mut Measured) -> u64 {
             calls::step(table, numbers).into()
         }
         Asked::Write(written) => calls::write(written, &mut measured.buffer).into(),
+        Asked::Blob(at) => {
+            let (block, place) = (at.block.into(), at.place.into());
+            calls::blob(table, mb, block, place, MEMO_FIELD, numbers).into()
+        }
     })
 }
 
@@ -83,7 +88,7 @@ pub extern "C" fn measured_ours(measured: &mut Measured) -> u64 {
 #[inline(never)]
 #[no_mangle]
 pub extern "C" fn measured_rust(measured: &mut Measured) -> u64 {
-    let Data { table, index } = measured.data;
+    let Data { table, index, mb } = measured.data;
     let marks = &mut measured.marks;
     let numbers = &mut measured.numbers;
     black_box(match measured.round[measured.next] {
@@ -106,5 +111,9 @@ pub extern "C" fn measured_rust(measured: &mut Measured) -> u64 {
             expected::lay_cursor(stepped, &mut numbers[0]).into()
         }
         Asked::Write(written) => expected::write(written, &mut measured.buffer).into(),
+        Asked::Blob(at) => {
+            let (read, block, place) = (Table::read(table), at.block.into(), at.place.into());
+            expected::blob(&read, mb, block, place, MEMO_FIELD, numbers).into()
+        }
     })
 }

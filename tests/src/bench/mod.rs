@@ -1,9 +1,10 @@
-//! The costs of the calls, beside the model's: checks and lookups on tables of three sizes, the
-//! other calls on a table of eight fields.
+//! The costs of the calls, beside the model's: checks and lookups on tables of three sizes, blobs
+//! with MB files of two sizes, the other calls on a table of eight fields.
 
 mod data;
 mod image;
 mod measured;
+mod memos;
 mod round;
 mod task;
 mod time;

@@ -34,6 +34,8 @@ pub enum Asked<'a> {
     Step(u64),
     /// The writing of a value.
     Write(Written<'a>),
+    /// The memo of a record on which a cursor stands.
+    Blob(Cursor),
 }
 
 /// The calls of a task, each once.
@@ -65,6 +67,7 @@ pub fn round(task: Task, data: &Data) -> Vec<Asked<'_>> {
             cursors.map(Asked::Step).collect()
         }
         Task::Write => values(&table).into_iter().map(Asked::Write).collect(),
+        Task::Blob => records(&table).map(Asked::Blob).collect(),
     }
 }
 

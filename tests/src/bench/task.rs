@@ -29,6 +29,8 @@ pub enum Task {
     Step,
     /// The writing of each value of the first record.
     Write,
+    /// Each memo.
+    Blob,
 }
 
 impl Task {
@@ -51,11 +53,15 @@ impl Task {
         Task::Write,
     ];
 
+    /// The blobs of a table.
+    const BLOBS: [Task; 1] = [Task::Blob];
+
     /// The tasks that are measured on a table.
     pub fn all_of(which: Which) -> &'static [Task] {
         match which {
             Which::Small | Which::Middle | Which::Large => &Task::LOOKUPS,
             Which::Fields => &Task::PARTS,
+            Which::Memos | Which::MemosLarge => &Task::BLOBS,
         }
     }
 
@@ -74,12 +80,13 @@ impl Task {
             Task::RecordNoRoom => "record-no-room",
             Task::Step => "step",
             Task::Write => "write",
+            Task::Blob => "blob",
         }
     }
 
     /// The task of a name on the command line.
     pub fn named(name: &str) -> Option<Task> {
-        let mut all = Task::LOOKUPS.into_iter().chain(Task::PARTS);
-        all.find(|task| task.name() == name)
+        let all = [&Task::LOOKUPS[..], &Task::PARTS, &Task::BLOBS].concat();
+        all.into_iter().find(|task| task.name() == name)
     }
 }

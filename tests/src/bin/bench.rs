@@ -9,7 +9,8 @@ const USAGE: &str = "bench
 bench --write DIR
 bench --once CALL SIDE TABLE [--data DIR]
 CALL is table-check, pair-check, scan-last, scan-absent, walk, header, field, cell, record,
-record-no-room, step or write; SIDE is ours or rust; TABLE is small, middle, large or fields";
+record-no-room, step, write or blob; SIDE is ours or rust; TABLE is small, middle, large, fields,
+memos or memos-large";
 
 enum Command {
     Times,

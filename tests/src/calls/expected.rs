@@ -58,6 +58,30 @@ pub fn record(read: &Read, block: usize, place: usize, cells: &mut [u64]) -> u32
     })
 }
 
+/// The answer of `paradox_blob`.
+pub fn blob(
+    read: &Read,
+    mb: &[u8],
+    block: usize,
+    place: usize,
+    field: usize,
+    part: &mut [u64],
+) -> u32 {
+    let mut file = IN_NEITHER;
+    let refusal = lay(
+        read,
+        part,
+        |_| PART_NUMBERS,
+        |table, numbers| {
+            let (held, part) = pack_blob(table.blob(mb, block, place, field)?);
+            numbers.copy_from_slice(&part);
+            file = held;
+            Ok(())
+        },
+    );
+    file | refusal
+}
+
 /// Lays an answer into the first of the lent numbers, as many as it has. The table's own refusals
 /// come first, then that of a buffer which is too short, then those of the question. A refusal makes
 /// every number 0.
@@ -65,7 +89,7 @@ fn lay(
     read: &Read,
     numbers: &mut [u64],
     length: impl Fn(&Table) -> usize,
-    ask: impl Fn(&Table, &mut [u64]) -> Result<(), Refusal>,
+    ask: impl FnOnce(&Table, &mut [u64]) -> Result<(), Refusal>,
 ) -> u32 {
     let answer = match read {
         Err(refusal) => Err(*refusal),

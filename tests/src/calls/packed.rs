@@ -1,8 +1,8 @@
-//! What the model answers, as numbers: a header, a field, a cell, a value, a cursor.
+//! What the model answers, as numbers: a header, a field, a cell, a blob, a value, a cursor.
 
 use super::Written;
 use crate::layout::{field_area, names};
-use crate::model::{Cell, Cursor, Kind, PlacedField, Refusal, Table, Value};
+use crate::model::{Blob, Cell, Cursor, Kind, PlacedField, Refusal, Table, Value};
 
 /// How many numbers a header has.
 pub const HEADER_NUMBERS: usize = 14;
@@ -10,6 +10,8 @@ pub const HEADER_NUMBERS: usize = 14;
 pub const FIELD_NUMBERS: usize = 6;
 /// How many numbers a cell has.
 pub const CELL_NUMBERS: usize = 4;
+/// How many numbers a part of a file has.
+pub const PART_NUMBERS: usize = 2;
 
 /// The answer of a start or a step where a record came.
 pub const RECORD: u32 = 1 << 8;
@@ -32,6 +34,13 @@ pub const LOGICAL: u64 = 6;
 pub const TEXT: u64 = 7;
 /// A memo or another blob, the kind of a field only.
 pub const BLOB: u64 = 8;
+
+/// The answer for a blob that is blank.
+pub const IN_NEITHER: u32 = 0;
+/// The answer for a blob in the leader.
+pub const IN_TABLE: u32 = 1 << 8;
+/// The answer for a blob in the MB file.
+pub const IN_MB: u32 = 2 << 8;
 
 /// The numbers of a header.
 pub fn pack_header(table: &Table) -> [u64; HEADER_NUMBERS] {
@@ -96,6 +105,16 @@ pub fn pack_cell(cell: Cell) -> [u64; CELL_NUMBERS] {
 pub fn pack_record_cell(cell: Result<Cell, Refusal>) -> [u64; CELL_NUMBERS] {
     let refused = |refusal: Refusal| [REFUSED, refusal.number().into(), 0, 0];
     cell.map_or_else(refused, pack_cell)
+}
+
+/// The answer for a blob, and the numbers of the part that it is.
+pub fn pack_blob(blob: Blob) -> (u32, [u64; PART_NUMBERS]) {
+    let (file, part) = match blob {
+        Blob::Blank => return (IN_NEITHER, [0; PART_NUMBERS]),
+        Blob::InTable(part) => (IN_TABLE, part),
+        Blob::InMb(part) => (IN_MB, part),
+    };
+    (file, [part.start as u64, part.length as u64])
 }
 
 /// The value that is to be written; none where it is of no kind.

@@ -20,6 +20,14 @@ pub fn any_field(read: &Read, random: &mut Random) -> usize {
     stray(fields, STORED_FIELD, random)
 }
 
+/// A field, most often one of these.
+pub fn any_of(fields: &[usize], read: &Read, random: &mut Random) -> usize {
+    if fields.is_empty() || random.percent(6) {
+        return any_field(read, random);
+    }
+    random.pick(fields)
+}
+
 /// A block and a place, which the table has most often.
 pub fn any_record(read: &Read, random: &mut Random) -> (usize, usize) {
     let Ok(table) = read else {

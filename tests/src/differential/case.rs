@@ -1,15 +1,17 @@
-//! The cases: which table, which index, and what is wrong with them.
+//! The cases: which table, which index, which MB file, and what is wrong with them.
 
 use super::sweep;
 use crate::generate::{self, Leaf, TableImage};
 use crate::layout::MOST_LISTED;
-use crate::mutate;
+use crate::mutate::{self, At};
 use crate::random::Random;
 
 /// One case in so many is a small file cut short, and another a small file with one byte changed.
 const SWEEP_EVERY: u64 = 8;
 /// One case in so many has as many blocks as there can be.
 const HUGE_EVERY: u64 = 6000;
+/// Cases in a hundred of which a blob is broken, where there is one.
+const BROKEN_BLOBS: usize = 60;
 /// Lengths at the limit of what is listed.
 const LIST_LIMITS: [usize; 4] = [
     MOST_LISTED - 1,
@@ -18,12 +20,17 @@ const LIST_LIMITS: [usize; 4] = [
     MOST_LISTED + 700,
 ];
 
-/// A table and an index, good or not.
+/// A table, an index and an MB file, good or not.
+#[derive(Default)]
 pub struct Case {
     /// The table's bytes.
     pub table: Vec<u8>,
     /// The index's bytes.
     pub index: Vec<u8>,
+    /// The MB file's bytes.
+    pub mb: Vec<u8>,
+    /// The cell of a blob that is worth a question.
+    pub blob: Option<At>,
 }
 
 /// The case of a number in the run of a seed.
@@ -39,8 +46,10 @@ pub fn make(seed: u64, number: u64) -> Case {
         let image = generate::huge_table(random);
         return with_index(random, &image);
     }
-    let image = generate::table(random);
+    let mut image = generate::table(random);
+    let mb = generate::fill_blobs(random, &mut image);
     let mut case = with_index(random, &image);
+    case.mb = mb;
     match random.below(100) {
         0..=33 => {}
         34..=58 => mutate::break_table(&mut case.table, random),
@@ -57,6 +66,9 @@ pub fn make(seed: u64, number: u64) -> Case {
         97..=98 => case = random_files(random),
         _ => random_behind(random, &mut case),
     }
+    if random.percent(BROKEN_BLOBS) {
+        case.blob = mutate::break_blob(&mut case.table, &mut case.mb, random);
+    }
     case
 }
 
@@ -65,6 +77,7 @@ pub fn with_index(random: &mut Random, image: &TableImage) -> Case {
     Case {
         table: image.bytes(),
         index: index_over(random, image, &image.first_keys()),
+        ..Case::default()
     }
 }
 
@@ -128,12 +141,14 @@ fn make_hollow(random: &mut Random, image: &TableImage, case: &mut Case) {
     }
 }
 
-/// The files lent for each other, or one of them for both.
+/// The files lent for each other, or one of them for two.
 fn swap_files(random: &mut Random, case: &mut Case) {
-    match random.below(3) {
+    match random.below(5) {
         0 => std::mem::swap(&mut case.table, &mut case.index),
         1 => case.index.clone_from(&case.table),
-        _ => case.table.clone_from(&case.index),
+        2 => case.table.clone_from(&case.index),
+        3 => case.mb.clone_from(&case.table),
+        _ => std::mem::swap(&mut case.table, &mut case.mb),
     }
 }
 
@@ -146,12 +161,14 @@ fn random_files(random: &mut Random) -> Case {
     Case {
         table: file(),
         index: file(),
+        mb: file(),
+        blob: None,
     }
 }
 
 /// Files that are good up to some place, and random from there on.
 fn random_behind(random: &mut Random, case: &mut Case) {
-    for file in [&mut case.table, &mut case.index] {
+    for file in [&mut case.table, &mut case.index, &mut case.mb] {
         let start = random.within(0..=file.len().min(2500));
         if random.percent(50) {
             random.fill(&mut file[start..]);

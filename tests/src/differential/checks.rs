@@ -52,7 +52,7 @@ impl Comparer {
     pub fn pair_check(&mut self, run: &mut Run, enough: bool) -> u32 {
         let before = run.marks(enough);
         let mut expected = before.clone();
-        let Case { table, index } = run.case;
+        let Case { table, index, .. } = run.case;
         let number = calls::check_number(&model::pair_check(table, index, &mut expected));
         let side = run.side();
         self.marks.place(&before, side);
@@ -102,7 +102,7 @@ impl Comparer {
     }
 
     fn walk(&mut self, run: &mut Run, key: &[u8]) -> u64 {
-        let Case { table, index } = run.case;
+        let Case { table, index, .. } = run.case;
         let packed = calls::pack_walk(model::walk(table, index, key));
         let answer = calls::walk(self.table.lent(), self.index.lent(), self.key.lent());
         count_lookup(run.tally, Call::Walk, packed);

@@ -20,11 +20,14 @@ const NUMBER_ROOM: usize = 16_384;
 const GONE_THROUGH_EVERY: usize = 4;
 /// One table with a cursor in so many is damaged under it.
 const DAMAGED_EVERY: usize = 4;
+/// One table with blobs in so many is lent as a part of its MB file.
+const OVERLAPPING_EVERY: usize = 16;
 
 /// Memory that is lent to the library, each part at a fence.
 pub struct Comparer {
     pub(super) table: Fence,
     pub(super) index: Fence,
+    mb: Fence,
     pub(super) key: Fence,
     pub(super) marks: Fence,
     other: Fence,
@@ -36,6 +39,7 @@ impl Default for Comparer {
         Comparer {
             table: Fence::new(FILE_ROOM),
             index: Fence::new(FILE_ROOM),
+            mb: Fence::new(FILE_ROOM),
             key: Fence::new(SMALL_ROOM),
             marks: Fence::new(MARK_ROOM),
             other: Fence::new(OTHER_ROOM),
@@ -61,6 +65,8 @@ impl Comparer {
         self.table.place(&case.table, side);
         let side = run.side();
         self.index.place(&case.index, side);
+        let side = run.side();
+        self.mb.place(&case.mb, side);
         let good_table = self.table_check(&mut run, true) == 0;
         let good_pair = self.pair_check(&mut run, true) == 0;
         if run.random.percent(25) {
@@ -69,15 +75,18 @@ impl Comparer {
         }
         self.look_up(&mut run, good_pair);
         self.ask(&mut run, good_table);
+        self.ask_overlapping(&mut run);
         self.memory.write_values(&mut run);
         self.inputs_unchanged(&mut run);
         run.differences
     }
 
-    /// Asks for the parts of the table and steps cursors along it.
+    /// Asks for the parts of the table and its blobs, and steps cursors along it.
     fn ask(&mut self, run: &mut Run, accepted: bool) {
         let subject = Subject::new(self.table.lent(), &run.case.table);
+        let subject = subject.with_mb(self.mb.lent(), &run.case.mb);
         self.memory.ask_parts(run, &subject);
+        self.memory.ask_blobs(run, &subject);
         let cursor = self.memory.ask_cursors(run, &subject);
         if accepted && run.random.below(GONE_THROUGH_EVERY) == 0 {
             self.memory.go_through(run, &subject);
@@ -106,11 +115,34 @@ impl Comparer {
         }
     }
 
+    /// Asks for blobs where the table is the end of the MB file, in one piece of memory.
+    fn ask_overlapping(&mut self, run: &mut Run) {
+        let Case {
+            table, mb, blob, ..
+        } = run.case;
+        let fits = mb.len() + table.len() < OTHER_ROOM / 2;
+        if blob.is_none() || !fits || run.random.below(OVERLAPPING_EVERY) != 0 {
+            return;
+        }
+        let both = [&mb[..], table].concat();
+        let side = run.side();
+        self.other.place(&both, side);
+        let lent = self.other.lent();
+        let subject = Subject::new(&lent[mb.len()..], table).with_mb(lent, &both);
+        self.memory.ask_blobs(run, &subject);
+        if self.other.lent() != both || !self.other.is_intact() {
+            let what = "the table or the MB file was changed".into();
+            run.differ(Call::Blob, what, &[("mb", &both)]);
+        }
+    }
+
     fn inputs_unchanged(&self, run: &mut Run) {
         let table = self.table.lent() == run.case.table && self.table.is_intact();
         let index = self.index.lent() == run.case.index && self.index.is_intact();
-        if !table || !index {
-            run.differ(Call::TableCheck, "an input was changed".into(), &[]);
+        let mb = self.mb.lent() == run.case.mb && self.mb.is_intact();
+        if !table || !index || !mb {
+            let lent = [("mb", &run.case.mb[..])];
+            run.differ(Call::TableCheck, "an input was changed".into(), &lent);
         }
     }
 }

@@ -1,6 +1,7 @@
 //! The library and the model on the same files: every answer and every lent byte compared.
 
 mod arguments;
+mod blobs;
 mod case;
 mod cells;
 mod checks;

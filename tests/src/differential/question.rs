@@ -3,7 +3,7 @@
 use super::difference::Run;
 use super::tally::Call;
 use crate::calls::expected::{self, Read};
-use crate::calls::{self, CELL_NUMBERS, FIELD_NUMBERS, HEADER_NUMBERS};
+use crate::calls::{self, CELL_NUMBERS, FIELD_NUMBERS, HEADER_NUMBERS, PART_NUMBERS};
 use crate::fence::Fence;
 use crate::model::Table;
 use crate::random::Random;
@@ -26,6 +26,12 @@ pub enum Question {
         place: usize,
         field: usize,
     },
+    /// A blob.
+    Blob {
+        block: usize,
+        place: usize,
+        field: usize,
+    },
     /// The cells of a record.
     Record { block: usize, place: usize },
     /// A cursor's start.
@@ -42,13 +48,31 @@ pub struct Subject<'a> {
     pub bytes: &'a [u8],
     /// What the model reads.
     pub read: Read<'a>,
+    /// The bytes of the MB file that are lent.
+    lent_mb: &'a [u8],
+    /// The same bytes.
+    mb: &'a [u8],
 }
 
 impl<'a> Subject<'a> {
     /// A table that is lent.
     pub fn new(lent: &'a [u8], bytes: &'a [u8]) -> Subject<'a> {
-        let read = Table::read(bytes);
-        Subject { lent, bytes, read }
+        Subject {
+            lent,
+            bytes,
+            read: Table::read(bytes),
+            lent_mb: &[],
+            mb: &[],
+        }
+    }
+
+    /// The table with an MB file.
+    pub fn with_mb(self, lent_mb: &'a [u8], mb: &'a [u8]) -> Subject<'a> {
+        Subject {
+            lent_mb,
+            mb,
+            ..self
+        }
     }
 }
 
@@ -59,6 +83,7 @@ impl Question {
             Question::Header => Call::Header,
             Question::Field { .. } => Call::Field,
             Question::Cell { .. } => Call::Cell,
+            Question::Blob { .. } => Call::Blob,
             Question::Record { .. } => Call::Record,
             Question::Start => Call::Start,
             Question::Step => Call::Step,
@@ -71,6 +96,7 @@ impl Question {
             Question::Header => HEADER_NUMBERS,
             Question::Field { .. } => FIELD_NUMBERS,
             Question::Cell { .. } => CELL_NUMBERS,
+            Question::Blob { .. } => PART_NUMBERS,
             Question::Record { .. } => {
                 let fields = read.as_ref().map_or(SOME_FIELDS, |read| read.header.fields);
                 CELL_NUMBERS * fields
@@ -93,7 +119,8 @@ impl Question {
     }
 
     /// The library's answer.
-    fn ask(self, table: &[u8], numbers: &mut [u64]) -> u32 {
+    fn ask(self, subject: &Subject, numbers: &mut [u64]) -> u32 {
+        let (table, mb) = (subject.lent, subject.lent_mb);
         match self {
             Question::Header => calls::header(table, numbers),
             Question::Field { field } => calls::field(table, field, numbers),
@@ -102,6 +129,11 @@ impl Question {
                 place,
                 field,
             } => calls::cell(table, block, place, field, numbers),
+            Question::Blob {
+                block,
+                place,
+                field,
+            } => calls::blob(table, mb, block, place, field, numbers),
             Question::Record { block, place } => calls::record(table, block, place, numbers),
             Question::Start => calls::start(table, numbers),
             Question::Step => calls::step(table, numbers),
@@ -110,7 +142,7 @@ impl Question {
 
     /// The model's answer.
     fn expect(self, subject: &Subject, numbers: &mut [u64]) -> u32 {
-        let (bytes, read) = (subject.bytes, &subject.read);
+        let (bytes, mb, read) = (subject.bytes, subject.mb, &subject.read);
         match self {
             Question::Header => expected::header(read, numbers),
             Question::Field { field } => expected::field(read, field, numbers),
@@ -119,6 +151,11 @@ impl Question {
                 place,
                 field,
             } => expected::cell(read, block, place, field, numbers),
+            Question::Blob {
+                block,
+                place,
+                field,
+            } => expected::blob(read, mb, block, place, field, numbers),
             Question::Record { block, place } => expected::record(read, block, place, numbers),
             Question::Start => expected::start(bytes, read, numbers),
             Question::Step => expected::step(bytes, read, numbers),
@@ -149,14 +186,20 @@ impl Memory {
         let expected = question.expect(subject, &mut after);
         let side = run.side();
         self.numbers.place_numbers(before, side);
-        let answer = question.ask(subject.lent, self.numbers.numbers_mut());
+        let answer = question.ask(subject, self.numbers.numbers_mut());
         let call = question.call();
         run.tally.count_answer(call, expected, &after);
-        let lent = [("numbers", bytes_of(before)), ("asked", subject.bytes)];
+        let numbers = ("numbers", bytes_of(before));
+        let lent = [numbers, ("asked", subject.bytes), ("mb", subject.mb)];
+        let lent = if call == Call::Blob {
+            &lent
+        } else {
+            &lent[..2]
+        };
         let (room, first) = (before.len(), before.first().unwrap_or(&0));
         let asked = format_args!("{question:?} with {room} numbers, the first {first:#x}: ");
-        run.judge(call, asked, (answer.into(), expected.into()), &lent);
-        run.judge_written(call, asked, (&self.numbers, bytes_of(&after)), &lent);
+        run.judge(call, asked, (answer.into(), expected.into()), lent);
+        run.judge_written(call, asked, (&self.numbers, bytes_of(&after)), lent);
         answer
     }
 

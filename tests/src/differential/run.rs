@@ -92,8 +92,11 @@ fn compare_listings(options: &Options, numbers: Range<u64>, tally: &mut Tally) {
             }
         };
         if let Some(difference) = difference {
-            let index = Vec::new();
-            report(options, number, &difference, &Case { table, index }, tally);
+            let case = Case {
+                table,
+                ..Case::default()
+            };
+            report(options, number, &difference, &case, tally);
         }
     }
 }

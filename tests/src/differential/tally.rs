@@ -1,6 +1,7 @@
 //! What a run has seen: how often each call gave each answer.
 
-use crate::calls::{refusal_of, BLANK, RECORD, TEXT};
+use crate::calls::{refusal_of, BLANK, IN_MB, IN_NEITHER, IN_TABLE, RECORD, TEXT};
+use crate::mb::{OWN_HEAD, UNIT};
 use std::fmt;
 
 /// Where an answer comes from.
@@ -30,6 +31,8 @@ pub enum Call {
     Start,
     /// A cursor's step.
     Step,
+    /// A blob.
+    Blob,
 }
 
 /// The calls in the order of the printed columns, one table each.
@@ -49,9 +52,10 @@ const COLUMNS: [&[Call]; 2] = [
         Call::Write,
         Call::Start,
         Call::Step,
+        Call::Blob,
     ],
 ];
-const CALLS: usize = Call::Step as usize + 1;
+const CALLS: usize = Call::Blob as usize + 1;
 const NUMBERS: usize = 28;
 
 impl Call {
@@ -70,6 +74,7 @@ impl Call {
             Call::Write => "write",
             Call::Start => "start",
             Call::Step => "step",
+            Call::Blob => "blob",
         }
     }
 
@@ -90,6 +95,7 @@ impl Call {
             Call::Write => &[0, 11, 12, 13, 14],
             Call::Start => &[0, 1, 2, 3, 4, 5, 6, 7, 8, 9, 14],
             Call::Step => &[0, 1, 2, 3, 4, 5, 6, 7, 8, 9, 13, 14],
+            Call::Blob => &[0, 1, 2, 3, 4, 5, 6, 7, 9, 13, 14, 18],
         }
     }
 }
@@ -111,10 +117,18 @@ pub enum Event {
     SteppedToEnd,
     /// A cursor went through an accepted table.
     GoneThrough,
+    /// A blob was blank.
+    BlankBlob,
+    /// A blob was in its leader.
+    BlobInLeader,
+    /// A blob was in a block of its own.
+    OwnBlob,
+    /// A blob was in a suballocated block.
+    SuballocatedBlob,
 }
 
 /// The events with their names.
-const EVENTS: [(Event, &str); 7] = [
+const EVENTS: [(Event, &str); 11] = [
     (Event::Found, "keys found"),
     (Event::Absent, "keys absent"),
     (Event::StartedOnRecord, "starts on record"),
@@ -122,6 +136,10 @@ const EVENTS: [(Event, &str); 7] = [
     (Event::SteppedToRecord, "steps to a record"),
     (Event::SteppedToEnd, "steps to the end"),
     (Event::GoneThrough, "tables gone through"),
+    (Event::BlankBlob, "blank blobs"),
+    (Event::BlobInLeader, "blobs in leaders"),
+    (Event::OwnBlob, "blobs in own blocks"),
+    (Event::SuballocatedBlob, "suballocated blobs"),
 ];
 
 /// What a cell can be, from blank to text.
@@ -160,7 +178,7 @@ impl Tally {
     }
 
     /// Counts the answer of a call that is lent numbers or writes a value. The first number says what the
-    /// cell is.
+    /// cell is, or where the blob begins.
     pub fn count_answer(&mut self, call: Call, answer: u32, numbers: &[u64]) {
         self.count(call, refusal_of(answer.into()));
         match (call, answer) {
@@ -170,6 +188,9 @@ impl Tally {
             (Call::Step, 0) => self.note(Event::SteppedToEnd),
             (Call::Cell, 0) => count_what(&mut self.read, numbers),
             (Call::Write, 0) => count_what(&mut self.written, numbers),
+            (Call::Blob, IN_NEITHER) => self.note(Event::BlankBlob),
+            (Call::Blob, IN_TABLE) => self.note(Event::BlobInLeader),
+            (Call::Blob, IN_MB) => self.note(block_of_blob(numbers)),
             _ => {}
         }
     }
@@ -203,6 +224,19 @@ impl Tally {
         let all: u64 = self.answers.iter().flatten().sum();
         let listings = self.answers.iter().map(|row| row[Call::Listing as usize]);
         all - listings.sum::<u64>()
+    }
+}
+
+/// In which kind of block a blob is: one of its own has it right behind the head, where no chunk
+/// begins.
+fn block_of_blob(part: &[u64]) -> Event {
+    let own = part
+        .first()
+        .is_some_and(|start| start % UNIT as u64 == OWN_HEAD as u64);
+    if own {
+        Event::OwnBlob
+    } else {
+        Event::SuballocatedBlob
     }
 }
 

@@ -1,10 +1,10 @@
 //! The program cell_test: cells read and written.
 
 use super::lines::{Lent, Line, Program, Said};
-use super::show::{hex, refused};
+use super::show::{hex, placed_bytes, refused};
 use super::table::TABLE;
 use super::value::{value, VALUE};
-use crate::model::{cell, write, Cell, Part, Refusal, Table};
+use crate::model::{cell, write, Cell, Refusal, Table};
 
 /// Bytes lent for a text where a line does not say it.
 const TEXT_LENT: u16 = 7;
@@ -31,12 +31,8 @@ impl Program for CellTest {
         match letter {
             b'v' => Said::Noted(VALUE),
             b'?' => {
-                let asked = cell(
-                    line.table(),
-                    line.first.into(),
-                    line.second.into(),
-                    line.number.into(),
-                );
+                let (block, place, field) = line.cell();
+                let asked = cell(line.table(), block, place, field);
                 Said::Shown([b" ".as_slice(), &show(line.table(), asked)].concat())
             }
             b'l' => Said::Shown(every_cell(line.table())),
@@ -100,11 +96,7 @@ fn show(table: &[u8], cell: Result<Cell, Refusal>) -> Vec<u8> {
         Ok(Cell::Logical(false)) => "logical F".to_string(),
         Ok(Cell::Logical(true)) => "logical T".to_string(),
         Ok(Cell::Double(number)) => format!("number {:016x}", number.to_bits()),
-        Ok(Cell::Text(text)) => {
-            let Part { start, length } = text;
-            let place = format!("text {length} at {start} [");
-            return [place.as_bytes(), &table[start..start + length], b"]"].concat();
-        }
+        Ok(Cell::Text(text)) => return placed_bytes("text", text, table),
         Err(refusal) => refused(refusal),
     };
     shown.into()

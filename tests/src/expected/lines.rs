@@ -10,7 +10,7 @@ pub struct Lent {
     pub marks: u16,
     /// How many bytes of the table.
     pub table: u16,
-    /// How many bytes of the index.
+    /// How many bytes beside the table: of the index, of the MB file or of a text.
     pub index: u16,
     /// What the marks hold before a call.
     pub fill: u8,
@@ -114,6 +114,16 @@ impl Line {
         part(&self.buffer, self.lent.table)
     }
 
+    /// The bytes lent beside the table, which stand from a place in the buffer on.
+    pub fn beside(&self, place: usize) -> &[u8] {
+        part(&self.buffer[place..], self.lent.index)
+    }
+
+    /// The block, the place and the field of the cell that is asked for.
+    pub fn cell(&self) -> (usize, usize, usize) {
+        (self.first.into(), self.second.into(), self.number.into())
+    }
+
     /// Stores a byte where the number says and goes on behind it. Outside the buffer nothing happens.
     pub fn store(&mut self, byte: u8) {
         if let Some(place) = self.buffer.get_mut(usize::from(self.number)) {
@@ -186,7 +196,7 @@ impl Line {
 }
 
 /// The first bytes of a part of the buffer, or all of them where there are fewer.
-pub fn part(bytes: &[u8], length: u16) -> &[u8] {
+fn part(bytes: &[u8], length: u16) -> &[u8] {
     &bytes[..bytes.len().min(length.into())]
 }
 

@@ -1,5 +1,6 @@
 //! What the test programs in Rattle are to print for their inputs, by the model.
 
+mod blob;
 mod cell;
 mod copy;
 mod header;
@@ -19,7 +20,8 @@ use std::path::{Path, PathBuf};
 /// A program's crate, and what it prints for its input.
 type Made = (&'static str, fn(&[u8]) -> Vec<u8>);
 
-const PROGRAMS: [Made; 6] = [
+const PROGRAMS: [Made; 7] = [
+    ("blob_test", |input| run(blob::BlobTest, input)),
     ("cell_test", |input| run(cell::CellTest, input)),
     ("header_test", |input| run(header::HeaderTest, input)),
     ("lister", listing),

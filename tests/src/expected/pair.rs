@@ -1,6 +1,6 @@
 //! The program pair_test: the pair check, the walk and the scan.
 
-use super::lines::{part, Lent, Line, Program, Said};
+use super::lines::{Lent, Line, Program, Said};
 use super::neighbours;
 use super::show::{scanned, walked, Marks};
 use crate::calls::check_number;
@@ -85,7 +85,7 @@ impl Files<'_> {
     pub fn of(line: &Line) -> Files<'_> {
         Files {
             table: line.table(),
-            index: part(&line.buffer[INDEX..], line.lent.index),
+            index: line.beside(INDEX),
         }
     }
 

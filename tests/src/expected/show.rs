@@ -1,7 +1,7 @@
 //! How the test programs print answers and marks.
 
 use super::lines::Lent;
-use crate::model::{Place, Refusal, Walked};
+use crate::model::{Part, Place, Refusal, Walked};
 use std::fmt::Write;
 
 /// Bytes as hexadecimal digits.
@@ -15,6 +15,17 @@ pub fn hex(bytes: &[u8]) -> String {
 /// A refusal's number.
 pub fn refused(refusal: Refusal) -> String {
     format!("!{}", refusal.number())
+}
+
+/// A part of a file: what it is, its length and where it begins.
+pub fn placed(what: &str, part: Part) -> String {
+    format!("{what} {} at {}", part.length, part.start)
+}
+
+/// A part of a file, and its bytes behind it.
+pub fn placed_bytes(what: &str, part: Part, file: &[u8]) -> Vec<u8> {
+    let bytes = &file[part.start..part.start + part.length];
+    [placed(what, part).as_bytes(), b" [", bytes, b"]"].concat()
 }
 
 /// A scan's answer.

@@ -1,6 +1,6 @@
 //! The values that cell_test writes.
 
-use super::lines::{part, Line};
+use super::lines::Line;
 use crate::model::Value;
 
 /// Where the value stands.
@@ -27,7 +27,7 @@ pub fn value(letter: u8, line: &Line) -> Option<Value<'_>> {
 fn text(line: &Line) -> Option<&[u8]> {
     let start = usize::from(u16::from_be_bytes(stored(line, 0)));
     let length = usize::from(u16::from_be_bytes(stored(line, 2)));
-    part(&line.buffer[TEXT..], line.lent.index).get(start..start + length)
+    line.beside(TEXT).get(start..start + length)
 }
 
 /// The value's bytes from an offset on.

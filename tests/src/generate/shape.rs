@@ -92,6 +92,18 @@ impl Shape {
         width_of(&self.fields[..self.key_fields])
     }
 
+    /// Where the blob cells of a record begin, each with its width.
+    pub fn blob_places(&self) -> Vec<(usize, usize)> {
+        let mut start = 0;
+        let place = |field: &StoredField| {
+            let width = usize::from(field.width);
+            start += width;
+            let is_blob = codes::BLOBS.contains(&field.code);
+            is_blob.then_some((start - width, width))
+        };
+        self.fields.iter().filter_map(place).collect()
+    }
+
     /// Bytes in a block.
     pub fn block_size(&self) -> usize {
         usize::from(self.units) * UNIT

@@ -1,5 +1,7 @@
-//! A second implementation of document 01, written from the paper and from how its open places are read.
+//! A second implementation of document 01 and of request 01 of document 02, written from the papers
+//! and from how their open places are read.
 
+mod blob;
 mod blocks;
 mod cells;
 mod chain;
@@ -17,6 +19,7 @@ mod table;
 mod walk;
 mod write;
 
+pub use blob::{blob, Blob};
 pub use blocks::{Block, Blocks};
 pub use cells::{cell, Cell};
 pub use cursor::{start, step, Cursor, Stepped};

@@ -1,4 +1,4 @@
-//! The refusal numbers (document 01, "Refusal numbers").
+//! The refusal numbers (document 01, "Refusal numbers", and document 02).
 
 /// Why a call refuses. Number 16 has no case here: the counts of 32,767 blocks never add up to it.
 #[derive(Clone, Copy, Debug, PartialEq, Eq)]
@@ -32,6 +32,8 @@ pub enum Refusal {
     Argument = 13,
     /// A lent buffer is too short.
     Buffer = 14,
+    /// The MB file has no such blob as the cell says.
+    UnfitBlob = 18,
     /// The index has fewer than 88 bytes.
     IndexShort = 21,
     /// The file type is not that of an index.

@@ -4,10 +4,10 @@ use super::fields::Fields;
 use super::{chain, counts, keys, Block, Blocks, Field, Header, PlacedField, Refusal};
 use crate::layout::BLOCK_HEAD;
 
-/// A part of a table.
+/// A part of a table, or of an MB file.
 #[derive(Clone, Copy, Debug, PartialEq, Eq)]
 pub struct Part {
-    /// Where it begins, from the table's first byte.
+    /// Where it begins, from the file's first byte.
     pub start: usize,
     /// Its bytes.
     pub length: usize,

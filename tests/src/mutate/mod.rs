@@ -1,5 +1,7 @@
-//! Files with one thing broken or a few, each rule of document 01 aimed at by name.
+//! Files with one thing broken or a few, each rule of documents 01 and 02 aimed at by name.
 
+mod blob_cell;
+mod blobs;
 mod bytes;
 mod chain;
 mod counts;
@@ -9,10 +11,12 @@ mod hostile;
 mod index_header;
 mod index_tree;
 mod keys;
+mod mb;
 mod stale;
 
 use crate::random::Random;
 
+pub use blobs::{blob_faults, break_blob, break_by, At};
 pub use hostile::{hollow_index, hostile_index};
 pub use stale::{with_record_deleted, with_record_inserted};
 

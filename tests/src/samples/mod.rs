@@ -1,6 +1,8 @@
 //! Small files for people to try: the stock of a ship chandler and model shop, and files that are
 //! wrong in one way each.
 
+mod memos;
+mod notes;
 mod parts;
 mod shop;
 mod store;
@@ -16,6 +18,7 @@ pub fn samples() -> Vec<Sample> {
     let parts = parts::table();
     let mut torn = parts.bytes();
     torn.truncate(9000);
+    let (notes, memos) = notes::files();
     vec![
         ("parts.db", parts.bytes()),
         ("parts.px", parts::index(&parts)),
@@ -25,6 +28,8 @@ pub fn samples() -> Vec<Sample> {
         ("tides.db", shop::tides().bytes()),
         ("loop.db", shop::circle()),
         ("number.db", shop::coils().bytes()),
+        ("notes.db", notes.bytes()),
+        ("notes.mb", memos),
     ]
 }
 

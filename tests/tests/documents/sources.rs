@@ -50,7 +50,9 @@ pub fn declaration(line: &str) -> Option<&str> {
 
 /// A word without the punctuation behind it.
 fn bare(word: &str) -> &str {
-    word.split(['(', ':', ',', ';', '{']).next().unwrap_or(word)
+    word.split(['(', '<', ':', ',', ';', '{'])
+        .next()
+        .unwrap_or(word)
 }
 
 /// Whether a file under crates/ declares a name: `name`, `Owner.member`, `Owner::member`; `crate::name` and
@@ -113,17 +115,22 @@ pub fn head_of(call: &str) -> Option<String> {
             .0;
         (functions.to_string(), "    ")
     };
-    let starts = ["pub fn", "pub extern \"C\" fn"].map(|kind| format!("\n{step}{kind} {name}("));
-    let at = starts.iter().find_map(|start| source.find(start))?;
+    let start = format!("{step}pub ");
+    let is_head = |line: &&str| line.starts_with(&start) && declares_function(line, name);
+    let at = source.find(source.lines().find(is_head)?)?;
     source[at..].split("{\n").next().map(str::to_string)
 }
 
 /// Whether a function is in a crate's root, or named there for its users.
 fn hands_out(owner: &str, name: &str) -> bool {
     let lib = read(&format!("crates/{owner}/src/lib.rt"));
-    let (own, used) = (format!("fn {name}("), format!("::{name};"));
-    lib.contains(&own)
-        || lib
-            .lines()
-            .any(|line| line.starts_with("pub use") && line.ends_with(&used))
+    let used = format!("::{name};");
+    lib.lines().any(|line| {
+        declares_function(line, name) || line.starts_with("pub use") && line.ends_with(&used)
+    })
+}
+
+/// Whether a line is the first of a function of this name.
+fn declares_function(line: &str, name: &str) -> bool {
+    line.contains("fn ") && declaration(line) == Some(name)
 }
