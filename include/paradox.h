@@ -69,8 +69,8 @@ enum {
  * Checks a table. Answers PARADOX_ACCEPTED or the number of the first rule that is broken.
  *
  * The mark buffer has at least one byte for each block. With 1 to 7 and 14 it is as it was. With 8 its first bytes, one
- * for each block, are 0. With 9, 10 and acceptance byte b - 1 is 1 where block b is used and 2 where it is free. Bytes
- * behind those of the blocks never change.
+ * for each block, are 0. With 9, 16, 10 and acceptance byte b - 1 is 1 where block b is used and 2 where it is free.
+ * Bytes behind those of the blocks never change.
  */
 uint32_t paradox_table_check(const uint8_t *table, size_t table_len, uint8_t *marks, size_t marks_len);
 

@@ -5,3 +5,4 @@ pub mod RefusalLaws
 pub mod FindLaws
 pub mod PartLaws
 pub mod Vectors
+pub mod SameLaws

@@ -9,8 +9,8 @@ use lib.ListN.{length}
 use borrow.Author.Tests.{eq-eqb, ne-eqb, le-leb, lt-leb, lt-ltb, le-ltb, leb-true}
 use Rattle.words.proofs.Conjunctions.{both, join}
 use Rattle.blob.specs.Mb.{mbUnit, blockKind, unitsAt, mbBlockSize, blockInside, ownLowByte, ownKind}
-use Rattle.blob.specs.Mb.{ownLength, ownHead, ownStated, subKind, subUnit, entries, entryPlace, entriesEnd, entryBegin}
-use Rattle.blob.specs.Mb.{entryUnits, entryLast, entryLength, entryUsed, entryBlob, entryStated, statedAt}
+use Rattle.blob.specs.Mb.{ownLength, ownHead, ownStated, subKind, subUnit, entries, entryPlace, entriesEnd}
+use Rattle.blob.specs.Mb.{entryBegin, entryUnits, entryLast, entryLength, entryUsed, entryBlob, entryStated, statedAt}
 use Rattle.blob.specs.Steps.{sizeIn}
 use Rattle.blob.specs.declared.mb.Stated.the-variants.{Is, Nothing}
 

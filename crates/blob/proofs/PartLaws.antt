@@ -1,4 +1,4 @@
--- A blob that is found is inside its file, as its cell or its block is. Assumes nothing.
+-- A blob that is found is inside its file, as its cell or its block is; a refusal hands out no part. Assumes nothing.
 use mathlib.Core.Path.{_≡_, refl}
 use mathlib.Core.List.{List, []}
 use Prim.Native.Nat.{ℕ, _+_, _-_, _≤_}
@@ -12,7 +12,7 @@ use Rattle.header.specs.declared.Header.{Header}
 use Rattle.header.specs.declared.kind.FieldKind.the-variants as Kin
 use Rattle.header.proofs.AcceptedLaws.{first-holds}
 use Rattle.cell.proofs.LocatingLaws.{located}
-use Rattle.blob.specs.Blob.{blockBlob, blobOf, blobBytes, blobAddress}
+use Rattle.blob.specs.Blob.{blockBlob, blobOf, neither, partNumbers, findNumbers, blobBytes, blobAddress}
 use Rattle.blob.specs.declared.answer.Blob.{Blob}
 use Rattle.blob.specs.declared.answer.Blob.the-variants.{Blank, InTable, InMb, Refused}
 use Rattle.blob.proofs.FindLaws.{at-table, block-gives, body-in}
@@ -75,3 +75,17 @@ module _ (t mb : List ℕ) (table file : ℕ × ℕ) (x : Blob) where
   unfolding blobBytes blobAddress
   mb-part start len e =
       let l : start + len - start ≡ len = omega arith in (rw (e, l) refl, rw e refl)
+
+-- ---- a refusal hands out no part: no file, no start, no length, no bytes
+
+pub refused-no-part : (t mb : List ℕ) (b p f : ℕ) → (findNumbers t mb b p f .0 ≡ 0 → ⊥) →
+    (findNumbers t mb b p f ≡ (findNumbers t mb b p f .0, neither, 0, 0)) × (blobBytes t mb (blobOf t mb b p f) ≡ [])
+unfolding partNumbers blobBytes
+refused-no-part t mb b p f h = go (blobOf t mb b p f) h
+  where
+    go : (x : Blob) → (partNumbers x .0 ≡ 0 → ⊥) →
+        (partNumbers x ≡ (partNumbers x .0, neither, 0, 0)) × (blobBytes t mb x ≡ [])
+    go Blank k = absurd (k refl)
+    go (InTable start len) k = absurd (k refl)
+    go (InMb start len) k = absurd (k refl)
+    go (Refused n) k = (refl, refl)

@@ -12,8 +12,8 @@ use borrow.Author.Tests.{eqb-true, leb-true, ltb-true, eq-eqb, le-leb}
 use Rattle.words.proofs.Conjunctions.{both}
 use Rattle.words.proofs.Cases.{apart, either}
 use Rattle.header.specs.Refusals.{unfitBlob}
-use Rattle.blob.specs.Mb.{lowByte, baseOf, mbUnit, onUnit, blockKind, unitsAt, mbBlockSize, blockInside, ownLowByte}
-use Rattle.blob.specs.Mb.{ownKind, ownHead, ownLength, ownStated, subKind, entries, entryPlace, entryBegin}
+use Rattle.blob.specs.Mb.{lowByte, baseOf, mbUnit, onUnit, blockKind, unitsAt, mbBlockSize, blockInside}
+use Rattle.blob.specs.Mb.{ownLowByte, ownKind, ownHead, ownLength, ownStated, subKind, entries, entryPlace, entryBegin}
 use Rattle.blob.specs.Mb.{entryLength, entryUsed, entryBlob, entryStated, statedAt}
 use Rattle.blob.specs.Blob.{bodyWith, bodyOf}
 use Rattle.blob.specs.Rules.{OwnBlock, SubBlock, BlobRules}
@@ -44,7 +44,8 @@ module _ (mb : List ℕ) (base low begin len : ℕ) where
   entry-gives l = go (eqb (blockKind mb base) subKind) refl (entryUsed mb (entryPlace base low)) refl
     where
       go : (b : Bool) → eqb (blockKind mb base) subKind ≡ b → (u : Bool) → entryUsed mb (entryPlace base low) ≡ u
-          → cond b (cond u (Is (entryBegin mb (entryPlace base low)) (entryLength mb (entryPlace base low))) Nothing) Nothing
+          → cond b (cond u (Is (entryBegin mb (entryPlace base low)) (entryLength mb (entryPlace base low))) Nothing)
+          Nothing
           ≡ Is begin len → States
       go false k u w e = apart cc
       go true k false w e = apart cc
@@ -136,7 +137,8 @@ module _ (mb : List ℕ) (offset len : ℕ) where
           let p = both t in
           let q = both (p .1) in
           with-gives (eqb-true (base % mbUnit) 0 (p .0)) (leb-true 1 (unitsAt mb base) (q .0))
-          (leb-true (base + mbBlockSize mb base) (length mb) (q .1)) (statedAt mb base (lowByte offset)) refl start its e
+          (leb-true (base + mbBlockSize mb base) (length mb) (q .1)) (statedAt mb base (lowByte offset)) refl start its
+          e
 
   with-fits : (begin : ℕ) → begin + len ≤ mbBlockSize mb base
       → bodyWith mb base len (Is begin len) ≡ InMb (base + begin) len

@@ -106,7 +106,10 @@ entryLength mb e = subUnit * (entryUnits mb e - 1) + entryLast mb e
 -- the entry has a blob, and it begins behind the entries
 abbrev pub entryUsed : List ℕ → ℕ → Bool
 entryUsed mb e =
-    leb 1 (entryUnits mb e) && leb 1 (entryLast mb e) && leb (entryLast mb e) subUnit && leb entriesEnd (entryBegin mb e)
+    leb 1 (entryUnits mb e)
+    && leb 1 (entryLast mb e)
+    && leb (entryLast mb e) subUnit
+    && leb entriesEnd (entryBegin mb e)
 
 -- the blob that the entry at e states
 unfoldable pub entryBlob : List ℕ → ℕ → Stated

@@ -1,22 +1,25 @@
--- The count rule: what each answer says, and that the records counted are inside the block. Assumes nothing.
+-- The count rule: what each answer says, and that the records counted are inside the block and don't overlap.
+-- Assumes nothing.
 use Prim.Native.Nat.{ℕ, suc, _+_, _-_, _*_, _/_, _%_, _≤_, _<_}
 use mathlib.Core.Path.{_≡_, refl}
 use mathlib.Core.Bool.{Bool, true, false, cond, _&&_}
-use Rattle.words.proofs.Conjunctions.{both}
 use mathlib.Core.List.{List}
+use mathlib.Core.Logic.{_⊎_, inl, inr}
 use native.Mathlib.Nat.{mul-le-mul-left, mul-le-mul-right, mod-add-div', add-mul}
 use native.Mathlib.Omega.{arith}
 use lib.Dec.{eqb, leb}
 use lib.IntN.{ℤ, pos, negsuc}
 use lib.ListN.{length}
 use borrow.Author.Tests.{eq-eqb, ne-eqb, le-leb, lt-leb, eqb-true, leb-true}
+use Rattle.words.proofs.Cases.{compared}
+use Rattle.words.proofs.Conjunctions.{both}
 use Rattle.words.proofs.SignedLaws.{signed-below, signed-from}
 use Rattle.words.specs.Numbers.{word}
 use Rattle.words.specs.Signed.{signed}
 use Rattle.blocks.specs.Shape.{blockAt, recordAt, Sound, RunInside}
 use Rattle.blocks.specs.Counts.{countOf, countIn}
 use Rattle.blocks.specs.declared.Shape.{Shape}
-use Rattle.blocks.proofs.ShapeLaws.{block-inside}
+use Rattle.blocks.proofs.ShapeLaws.{block-inside, blocks-apart}
 use Rattle.blocks.specs.declared.count.Count.{Count}
 use Rattle.blocks.specs.declared.count.Count.the-variants.{Records, Bad}
 
@@ -100,3 +103,21 @@ pub run-inside : (t : List ℕ) (g : Shape) → Sound t g → (b : ℕ) → 1 �
     (key : ℕ) → key ≤ g .«record_size» → n < 65536 → RunInside t g key b n
 run-inside t g s b low high n e key short few =
     record { low = low; high = high; few = few; short = short; inside = record-in-file t g s b n e low high }
+
+-- ---- records that are counted don't overlap
+
+-- a record ends where the records behind it in its block begin, or before
+records-behind : (g : Shape) (b i j : ℕ) → i < j → recordAt g b i + g .«record_size» ≤ recordAt g b j
+records-behind g b i j l = omega (arith, mul-le-mul-right (g .«record_size») l)
+
+-- of two records of different blocks or places one ends where the other begins, or before
+module _ (t : List ℕ) (g : Shape) (s : Sound t g) where
+  pub records-apart : (b n i c m j : ℕ) → 1 ≤ b → countIn t g b ≡ Records n → i < n
+      → 1 ≤ c → countIn t g c ≡ Records m → j < m → (b ≡ c → i ≡ j → ⊥)
+      → (recordAt g b i + g .«record_size» ≤ recordAt g c j) ⊎ (recordAt g c j + g .«record_size» ≤ recordAt g b i)
+  records-apart b n i c m j low e k least f l other =
+      compared b c
+      (λ z. inl (omega (arith, record-inside t g s b n e i k, blocks-apart g b c low z)))
+      (λ z. rw z (compared i j (λ y. inl (records-behind g c i j y)) (λ y. absurd (other z y))
+      (λ y. inr (records-behind g c j i y))))
+      (λ z. inr (omega (arith, record-inside t g s c m f j l, blocks-apart g c b least z)))

@@ -1,2 +1,4 @@
 pub mod CountLaws
 pub mod ShapeLaws
+pub mod RuleLaws
+pub mod SameLaws

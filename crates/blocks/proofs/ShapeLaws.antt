@@ -53,6 +53,10 @@ blocks-fit : (block b n : ℕ) → 1 ≤ b → b ≤ n → (b - 1) * block + blo
 blocks-fit block zero n low high = absurd (not-suc-le-zero low)
 blocks-fit block (suc a) n low high = rw sub-one (omega (arith, mul-le-mul-right block high))
 
+-- a block ends where the blocks behind it begin, or before
+pub blocks-apart : (g : Shape) (b c : ℕ) → 1 ≤ b → b < c → blockAt g b + g .«block_size» ≤ blockAt g c
+blocks-apart g b c low l = omega (arith, blocks-fit (g .«block_size») b (c - 1) low (omega arith))
+
 -- a product of two words fits 32 bits
 pub words-product : (a b : ℕ) → a < 65536 → b < 65536 → a * b ≤ 4294836225
 words-product a b h k = mul-le-mul {n₁ = a} {m₁ = b} {n₂ = 65535} {m₂ = 65535} (omega arith) (omega arith)

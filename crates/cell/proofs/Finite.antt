@@ -1,5 +1,5 @@
 -- No number that isn't finite gets through: none is read, none is written, and a cell that stores one is refused with
--- 11. Assumes nothing.
+-- 11, by its bytes and by block, place and field. Assumes nothing.
 use mathlib.Core.Path.{_≡_, refl, sym, ap, _∙_}
 use mathlib.Core.Bool.{Bool, true, false, cond, not, _&&_, true≢false}
 use borrow.Author.Tests.{eqb-true}
@@ -23,13 +23,15 @@ use Rattle.header.specs.declared.kind.StoredKind.the-variants.{Kind}
 use Rattle.header.specs.declared.kind.FieldKind.{FieldKind}
 use Rattle.header.specs.declared.kind.FieldKind.the-variants as Kin
 use Rattle.header.specs.declared.Header.{Header}
+use Rattle.header.specs.Header.{headerRefusal}
 use Rattle.header.specs.Numbers.{numbersOf}
-use Rattle.cell.specs.Values.{number}
-use Rattle.cell.specs.Reading.{signedAt, doubleAt, numberCell, valueAt, cellAt, cellOf, Stands}
+use Rattle.cell.specs.Values.{nothing, blank, number, contentOf, answerOf}
+use Rattle.cell.specs.Locating.{BothSteps}
+use Rattle.cell.specs.Reading.{signedAt, doubleAt, numberCell, valueAt, cellAt, cellOf, readOf, Stands}
 use Rattle.cell.specs.Writing.{none, bytes, minusZero, numberForm, formOf, ofKind, putForm, writeOf}
 use Rattle.cell.specs.declared.value.Value.the-variants as Val
 use Rattle.cell.specs.declared.value.Cell.the-variants.{Is, Refused}
-use Rattle.cell.proofs.ReadingLaws.{no-cell, cell-value}
+use Rattle.cell.proofs.ReadingLaws.{no-cell, cell-blank, cell-value, block-cell, cell-accepted}
 use Rattle.cell.proofs.PlaceLaws.{stands}
 use Rattle.cell.proofs.DoubleLaws.{finite-is}
 use Rattle.cell.proofs.WritingLaws.{write-form}
@@ -114,6 +116,34 @@ infinite-refused s at w p f = go (allZero s at w) refl
     go : (z : Bool) → allZero s at w ≡ z → cellAt Kin.Number s at w ≡ Refused noMeaning
     go true z = absurd (true≢false (sym (zeros-finite s at w p z) ∙ f))
     go false z = sym (cell-value Kin.Number s at w z) ∙ rw f
+
+-- a number cell by block, place and field of a table whose header keeps rules 1 to 7
+module _ (t : List ℕ) (b p f width at : ℕ) (kept : headerRefusal t ≡ 0)
+    (c : BothSteps t (numbersOf t) b p f Kin.Number width at) where
+  found : cellAt Kin.Number t at width ≡ cellOf t b p f
+  found =
+      block-cell t (numbersOf t) b p f Kin.Number width (c .offset) (c .field) at (c .place)
+      ∙ cell-accepted t b p f kept
+
+  -- bytes that are no finite number's are refused with 11; blank comes first, so they are not to be all zero
+  pub infinite-cell : allZero t at width ≡ false → finite (doubleAt t at width) ≡ false
+      → cellOf t b p f ≡ Refused noMeaning
+  unfolding valueAt numberCell
+  infinite-cell z i = sym (cell-value Kin.Number t at width z ∙ found) ∙ rw i
+
+  pub infinite-read : allZero t at width ≡ false → finite (doubleAt t at width) ≡ false
+      → readOf t b p f ≡ (noMeaning, nothing)
+  unfolding readOf answerOf
+  infinite-read z i = ap (answerOf t) (infinite-cell z i)
+
+  -- bytes that are all zero are the blank, whatever double they are
+  pub zeros-cell : allZero t at width ≡ true → cellOf t b p f ≡ Is Val.Blank
+  unfolding isBlob
+  zeros-cell z = sym (cell-blank Kin.Number t at width refl z ∙ found)
+
+  pub zeros-read : allZero t at width ≡ true → readOf t b p f ≡ (0, blank)
+  unfolding readOf answerOf contentOf
+  zeros-read z = ap (answerOf t) (zeros-cell z)
 
 -- a number that isn't finite is not written: 11, and the buffer as it was
 pub infinite-unwritten : (x : Float) (code w : ℕ) (buffer : List ℕ) → kindOf code w ≡ Kind Kin.Number

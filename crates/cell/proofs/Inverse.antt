@@ -31,7 +31,7 @@ use Rattle.header.specs.Refusals.{noMeaning}
 use Rattle.cell.specs.Values.{Content, text, contentOf, answerOf}
 use Rattle.cell.specs.Reading.{falseByte, trueByte, leastDate, mostDate, isDate, dateCell, numberCell}
 use Rattle.cell.specs.Reading.{logicalCell, textWith}
-use Rattle.cell.specs.Writing.{none, bytes, noZero, signedForm, dateForm, numberForm, textForm}
+use Rattle.cell.specs.Writing.{none, bytes, noZero, signedForm, dateForm, numberForm, logicalByte, textForm}
 use Rattle.cell.specs.declared.value.Value.{Value}
 use Rattle.cell.specs.declared.value.Value.the-variants as Val
 use Rattle.cell.specs.declared.value.Cell.the-variants.{Is, Refused}
@@ -198,23 +198,23 @@ number-means x s f h = go (finite (ofBits binary64 (toBits binary64 x))) (eqb (t
 
 -- a cell with a logical has the logical's number
 pub read-logical : (n : ℕ) (v : Value) → logicalCell n ≡ Is v
-    → (b : Bool) × (v ≡ Val.Logical b) × (cond b trueByte falseByte ≡ n)
+    → (b : Bool) × (v ≡ Val.Logical b) × (logicalByte b ≡ n)
 unfolding logicalCell
 read-logical n v h = go (eqb n falseByte) (eqb n trueByte) refl refl h
   where
     go : (p q : Bool) → eqb n falseByte ≡ p → eqb n trueByte ≡ q
         → cond p (Is (Val.Logical false)) (cond q (Is (Val.Logical true)) (Refused noMeaning)) ≡ Is v
-        → (b : Bool) × (v ≡ Val.Logical b) × (cond b trueByte falseByte ≡ n)
+        → (b : Bool) × (v ≡ Val.Logical b) × (logicalByte b ≡ n)
     go true q e f k = (false, cc, sym (eqb-true n falseByte e))
     go false true e f k = (true, cc, sym (eqb-true n trueByte f))
     go false false e f k = no-cell k
 
 -- a logical is what its number means
 pub logical-means : (b : Bool)
-    → Numbered 1 (digits 1 (cond b trueByte falseByte)) (λ n. logicalCell n ≡ Is (Val.Logical b))
+    → Numbered 1 (digits 1 (logicalByte b)) (λ n. logicalCell n ≡ Is (Val.Logical b))
 unfolding logicalCell
-logical-means true = (trueByte, omega arith, omega arith, refl, refl)
-logical-means false = (falseByte, omega arith, omega arith, refl, refl)
+logical-means true = (logicalByte true, omega arith, omega arith, refl, refl)
+logical-means false = (logicalByte false, omega arith, omega arith, refl, refl)
 
 -- ---- texts
 

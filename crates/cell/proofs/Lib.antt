@@ -1,3 +1,5 @@
+pub mod AnswerLaws
+pub mod ApartLaws
 pub mod BlobLaws
 pub mod CopyLaws
 pub mod DoubleLaws
@@ -8,6 +10,7 @@ pub mod PlaceLaws
 pub mod ReadingLaws
 pub mod RefusalLaws
 pub mod RoundTrip
+pub mod SameLaws
 pub mod SignedCasts
 pub mod TableRoundTrip
 pub mod ValueKinds

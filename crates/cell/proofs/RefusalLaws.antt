@@ -56,41 +56,42 @@ module _ (Holds : Place → Type 0) (found : (at : ℕ) → Holds (Pla.At at))
   unfolding placeAt
   place-holds t g b p offset = with-holds g b p offset (countIn t g b)
 
--- locating, then the bytes
-module _ (Holds : Cell → Type 0) (is : (v : Value) → Holds (Is v))
-    (refused : (n : ℕ) → oneOf cellRefusals n ≡ true → Holds (Refused n)) where
-  meaningless : Holds (Refused noMeaning)
-  unfolding oneOf
-  meaningless = refused noMeaning refl
-
+-- the bytes: a value or 11, and 12 of a blob
+module _ (Holds : Cell → Type 0) (is : (v : Value) → Holds (Is v)) (meaningless : Holds (Refused noMeaning)) where
   date-holds : (z : ℤ) → Holds (dateCell z)
   unfolding dateCell
   date-holds (pos d) = either Holds (isDate d) _ _ (is (Val.Date d)) meaningless
   date-holds (negsuc d) = meaningless
 
-  value-holds : (kind : FieldKind) (s : List ℕ) (at w : ℕ) → Holds (valueAt kind s at w)
-  unfolding valueAt textWith numberCell logicalCell oneOf
-  value-holds Kin.Text s at w =
+  value-holds : (kind : FieldKind) → (isBlob kind ≡ true → Holds (Refused blobCell)) → (s : List ℕ) (at w : ℕ)
+      → Holds (valueAt kind s at w)
+  unfolding valueAt textWith numberCell logicalCell isBlob
+  value-holds Kin.Text blob s at w =
       let l = beforeZero s at w in
       either Holds (allZero s (at + l) (w - l)) _ _ (is (Val.Text at l)) meaningless
-  value-holds Kin.Date s at w = date-holds (signedAt s at w)
-  value-holds Kin.Short s at w = is (Val.Short (signedAt s at w))
-  value-holds Kin.Long s at w = is (Val.Long (signedAt s at w))
-  value-holds Kin.Number s at w = either Holds (finite (doubleAt s at w)) _ _ (is _) meaningless
-  value-holds Kin.Logical s at w =
+  value-holds Kin.Date blob s at w = date-holds (signedAt s at w)
+  value-holds Kin.Short blob s at w = is (Val.Short (signedAt s at w))
+  value-holds Kin.Long blob s at w = is (Val.Long (signedAt s at w))
+  value-holds Kin.Number blob s at w = either Holds (finite (doubleAt s at w)) _ _ (is _) meaningless
+  value-holds Kin.Logical blob s at w =
       either Holds (eqb (big s at w) falseByte) _ _ (is _)
       (either Holds (eqb (big s at w) trueByte) _ _ (is _) meaningless)
-  value-holds Kin.Blob s at w = refused blobCell refl
+  value-holds Kin.Blob blob s at w = blob refl
 
-  cell-at-holds : (kind : FieldKind) (s : List ℕ) (at w : ℕ) → Holds (cellAt kind s at w)
+  pub cell-at-holds : (kind : FieldKind) → (isBlob kind ≡ true → Holds (Refused blobCell)) → (s : List ℕ) (at w : ℕ)
+      → Holds (cellAt kind s at w)
   unfolding cellAt
-  cell-at-holds kind s at w =
-      either Holds (not (isBlob kind) && allZero s at w) _ _ (is Val.Blank) (value-holds kind s at w)
+  cell-at-holds kind blob s at w =
+      either Holds (not (isBlob kind) && allZero s at w) _ _ (is Val.Blank) (value-holds kind blob s at w)
 
+-- locating, then the bytes
+module _ (Holds : Cell → Type 0) (is : (v : Value) → Holds (Is v))
+    (refused : (n : ℕ) → oneOf cellRefusals n ≡ true → Holds (Refused n)) where
   field-holds : (t : List ℕ) (g : Shape) (b p : ℕ) (f : Field) → Holds (fieldCell t g b p f)
   unfolding fieldCell placeCell oneOf
   field-holds t g b p (Fie.Is kind width offset) =
-      place-holds (λ (r : Place). Holds (placeCell t kind width r)) (λ at. cell-at-holds kind t at width)
+      place-holds (λ (r : Place). Holds (placeCell t kind width r)) (λ at.
+      cell-at-holds Holds is (refused noMeaning refl) kind (λ e. refused blobCell refl) t at width)
       (λ n w. refused n (one-of-front n placeRefusals (blobCell ∷ noMeaning ∷ []) w)) t g b p offset
   field-holds t g b p Fie.Missing = refused badArgument refl
 

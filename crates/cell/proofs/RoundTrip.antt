@@ -6,6 +6,9 @@ use mathlib.Core.List.{List, [], _++_}
 use mathlib.Core.Logic.{_⊎_, inl, inr, ⊎-elim}
 use Prim.Native.Nat.{ℕ, suc, _+_, _-_, _≤_, _<_, _^_}
 use native.Mathlib.Omega.{arith}
+use denote.Laws.{Is as Owned}
+use denote.Enum.Declared.{row}
+use mir.Val.{Val as Machine}
 use lib.Dec.{leb, ltb}
 use lib.IntN.{ℤ, pos, negsuc}
 use lib.Ieee.{fits, binary64, ofBits, toBits}
@@ -30,12 +33,13 @@ use Rattle.header.specs.declared.kind.StoredKind.the-variants.{Kind, Unknown}
 use Rattle.header.proofs.KindLaws.{kind-width}
 use Rattle.cell.specs.Values.{Held, Content, nothing, blank, short, long, date, number, logical, text, contentOf}
 use Rattle.cell.specs.Values.{answerOf}
-use Rattle.cell.specs.Reading.{falseByte, trueByte, isDate, signedAt, doubleAt, valueAt, cellAt}
-use Rattle.cell.specs.Writing.{Form, none, bytes, minusZero, signedForm, dateForm, numberForm, formOf, ofKind}
-use Rattle.cell.specs.Writing.{putForm, putValue, writeKind, writeStored, writeOf}
+use Rattle.cell.specs.Reading.{isDate, signedAt, doubleAt, valueAt, cellAt}
+use Rattle.cell.specs.Writing.{Form, none, bytes, minusZero, signedForm, dateForm, numberForm, logicalByte}
+use Rattle.cell.specs.Writing.{formOf, ofKind, putForm, putValue, writeKind, writeStored, writeOf, ReadsBack}
 use Rattle.cell.specs.declared.value.Value.{Value}
 use Rattle.cell.specs.declared.value.Value.the-variants as Val
 use Rattle.cell.specs.declared.value.Cell.the-variants.{Is}
+use Rattle.cell.proofs.value.Value.{the-type}
 use Rattle.cell.proofs.ReadingLaws.{no-cell}
 use Rattle.cell.proofs.ValueKinds.{same-kind}
 use Rattle.cell.proofs.WritingLaws.{write-form}
@@ -64,7 +68,7 @@ form-length w (long z) s h = signed-length w z s h
 form-length w (date d) s h = digits-form w (d + half w) (isDate d) s h
 form-length w (number x) s h =
     digits-form w (complemented (half w) (toBits binary64 x)) (finite x && not (minusZero x)) s h
-form-length w (logical b) s h = digits-form w (cond b trueByte falseByte) true s h
+form-length w (logical b) s h = digits-form w (logicalByte b) true s h
 form-length w (text t) s h =
     let q = text-means w t s h in
     ap length (sym (q .3)) ∙ rw (length-append, length-replicate) (let l = q .1 in omega arith)
@@ -113,9 +117,9 @@ form-reads kind w (number x) s rest p b h u f =
 form-reads kind w (logical x) s rest p b h u f =
     let k = same-kind kind Kin.Logical u in
     let l : w ≡ 1 = rw k at p in
-    let e : s ≡ digits 1 (cond x trueByte falseByte) = let g = rw l at f in cc in
+    let e : s ≡ digits 1 (logicalByte x) = let g = rw l at f in cc in
     rw (k, l, e)
-    (stored-reads Kin.Logical 1 (digits 1 (cond x trueByte falseByte)) (logical x) rest refl (logical-means x)
+    (stored-reads Kin.Logical 1 (digits 1 (logicalByte x)) (logical x) rest refl (logical-means x)
     (λ t m. ap (answerOf t) m))
 form-reads kind w (text t) s rest p b h u f =
     let k = same-kind kind Kin.Text u in
@@ -214,6 +218,21 @@ write-then-read code w c buffer out held h =
           (form-reads kind w c s (drop w buffer) (kind-width code w kind (r .2)) (r .3) held (r .4) (r .6)),
     )
 
+-- all that an answer of 0 leaves: the value reads back, and what stands behind it is as before
+pub reads-back : (code w : ℕ) (c : Content) (buffer out : List ℕ) → Held c → writeOf code w c buffer ≡ (0, out)
+    → ReadsBack code w c buffer out
+reads-back code w c buffer out held h =
+    let r = write-then-read code w c buffer out held h in
+    let q = write-rest code w c buffer 0 out h in
+    record {
+      kind = r .0;
+      coded = r .1;
+      room = wrote code w c buffer out h .5;
+      reads = r .2;
+      rest = q .0;
+      long = q .1;
+    }
+
 -- ---- a cell that is read is written as the same bytes
 
 -- a blob cell has no value
@@ -303,14 +322,29 @@ read-then-write code kind w s at v buffer k b room h fit =
     write-is code kind w (contentOf s v) (range s at w) buffer k (r .0) (f .0) fit (f .1))
     (r .1)
 
+-- ---- a double is one of the format
+
+text-held : (b : Bool) (s : List ℕ) → Held (cond b (text s) nothing)
+unfolding Held
+text-held true s = tt
+text-held false s = tt
+
+-- what a program's value is known to be: its double is one of the format
+pub good-held : (s : List ℕ) (v : Value) (vs : List Machine) → Owned (row the-type) v vs → Held (contentOf s v)
+unfolding Held contentOf
+good-held s Val.Blank vs g = tt
+good-held s (Val.Short z) vs g = tt
+good-held s (Val.Long z) vs g = tt
+good-held s (Val.Date d) vs g = tt
+good-held s (Val.Number x) vs g = g .1 .1 .1 .1 .0 .1
+good-held s (Val.Logical b) vs g = tt
+good-held s (Val.Text start len) vs g = text-held (leb (start + len) (length s)) (range s start len)
+
 value-held : (kind : FieldKind) (s : List ℕ) (at w : ℕ) (v : Value) → valueAt kind s at w ≡ Is v → Held (contentOf s v)
 unfolding Held valueAt contentOf
 value-held Kin.Text s at w v h =
-    rw (read-text s at w (beforeZero s at w) v h .0) (go (leb (at + beforeZero s at w) (length s)))
-  where
-    go : (t : Bool) → Held (cond t (text (range s at (beforeZero s at w))) nothing)
-    go true = tt
-    go false = tt
+    rw (read-text s at w (beforeZero s at w) v h .0)
+    (text-held (leb (at + beforeZero s at w) (length s)) (range s at (beforeZero s at w)))
 value-held Kin.Date s at w v h = rw (read-date (signedAt s at w) v h .1) tt
 value-held Kin.Short s at w v h = let e : v ≡ Val.Short (signedAt s at w) = cc in rw e tt
 value-held Kin.Long s at w v h = let e : v ≡ Val.Long (signedAt s at w) = cc in rw e tt

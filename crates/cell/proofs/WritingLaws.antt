@@ -1,6 +1,6 @@
 -- The definition of writing, one law for each form and each answer. Assumes nothing.
 use mathlib.Core.Path.{_≡_, refl, sym, ap, _∙_, subst}
-use mathlib.Core.Bool.{Bool, true, false, cond}
+use mathlib.Core.Bool.{Bool, true, false}
 use mathlib.Core.List.{List, _++_}
 use Prim.Native.Nat.{ℕ, _+_, _-_, _≤_, _<_}
 use native.Mathlib.Nat.{le-antisymm, zero-add}
@@ -22,10 +22,9 @@ use Rattle.header.specs.declared.kind.StoredKind.the-variants.{Kind, Unknown}
 use Rattle.header.specs.Kinds.{kindOf, isBlob, Permitted}
 use Rattle.header.specs.Refusals.{blobCell, badArgument, shortBuffer}
 use Rattle.cell.specs.Values.{Content, short, long, date, number, logical, contentOf}
-use Rattle.cell.specs.Writing.{none, bytes, codeOf, signedForm, dateForm, numberForm, textForm, formOf, ofKind}
-use Rattle.cell.specs.Writing.{putForm, putValue, writeKind, writeStored, writeOf}
+use Rattle.cell.specs.Writing.{none, bytes, codeOf, signedForm, dateForm, numberForm, logicalByte, textForm}
+use Rattle.cell.specs.Writing.{formOf, ofKind, putForm, putValue, writeKind, writeStored, writeOf}
 use Rattle.cell.proofs.ValueKinds.{same-width}
-use Rattle.cell.specs.Reading.{falseByte, trueByte}
 use Rattle.cell.specs.Steps.{codedForm, OfWidth}
 use Rattle.cell.specs.declared.value.Value.{Value}
 use Rattle.cell.specs.declared.value.Value.the-variants as Val
@@ -67,7 +66,7 @@ module _ (s : List ℕ) (v : Value) (w : ℕ) (o : OfWidth (contentOf s v) w) wh
   form-number x e k f = let q : w ≡ 8 = width (number x) Kin.Number (ap (contentOf s) e) (λ kind. refl) in rw (e, q) f
 
   pub form-logical : (b : Bool) → v ≡ Val.Logical b → (k : Coded)
-      → codedForm 1 k ≡ bytes (digits 1 (cond b trueByte falseByte)) → codedForm w k ≡ formOf w (contentOf s v)
+      → codedForm 1 k ≡ bytes (digits 1 (logicalByte b)) → codedForm w k ≡ formOf w (contentOf s v)
   unfolding contentOf formOf ofKind Permitted
   form-logical b e k f =
       let q : w ≡ 1 = width (logical b) Kin.Logical (ap (contentOf s) e) (λ kind. refl) in rw (e, q) f

@@ -1,22 +1,22 @@
 -- Where a cell stands, in two steps: first block and field, then count and place. What its bytes mean comes after. Both
 -- steps are defined for any bytes, given the numbers of a header. Definitions only.
-use Prim.Native.Nat.{ℕ, _+_, _-_, _*_, _≤_}
+use Prim.Native.Nat.{ℕ, _+_, _-_, _*_, _≤_, _<_}
 use mathlib.Core.Path.{_≡_}
 use mathlib.Core.Bool.{cond}
 use mathlib.Core.List.{List, [], _∷_}
 use lib.Dec.{ltb}
 use lib.ListN.{length}
-use Rattle.words.specs.Numbers.{byte}
 use Rattle.header.specs.Refusals.{wrongCount, badArgument}
 use Rattle.header.specs.Kinds.{kindOf, Permitted}
-use Rattle.header.specs.Fields.{widthAt, widthSum}
+use Rattle.header.specs.Header.{blockHead}
+use Rattle.header.specs.Fields.{codeAt, widthAt, widthSum}
 use Rattle.header.specs.Numbers.{fieldOf}
 use Rattle.header.specs.declared.Header.{Header}
 use Rattle.header.specs.declared.kind.FieldKind.{FieldKind}
 use Rattle.header.specs.declared.kind.StoredKind.the-variants.{Kind}
 use Rattle.header.specs.declared.field.Field.{Field}
 use Rattle.header.specs.declared.field.Field.the-variants.{Is, Missing}
-use Rattle.blocks.specs.Shape.{shapeOf, hasBlock, recordAt}
+use Rattle.blocks.specs.Shape.{shapeOf, hasBlock, blockAt, recordAt}
 use Rattle.blocks.specs.Counts.{countIn}
 use Rattle.blocks.specs.declared.Shape.{Shape}
 use Rattle.blocks.specs.declared.count.Count.{Count}
@@ -58,7 +58,29 @@ pub record BothSteps (t : List ℕ) (h : Header) (b p f : ℕ) (kind : FieldKind
 -- begins behind the fields before it in its record, and it is inside the table
 pub record Located (t : List ℕ) (h : Header) (b p f : ℕ) (kind : FieldKind) (width at : ℕ) : Type 0 where
   pub wide : width ≡ widthAt t (h .area) (f - 1)
-  pub stored : kindOf (byte t (h .area + 2 * (f - 1))) width ≡ Kind kind
+  pub stored : kindOf (codeAt t (h .area) (f - 1)) width ≡ Kind kind
   pub permitted : Permitted kind width
   pub begins : at ≡ recordAt (shapeOf h) b p + widthSum t (h .area) (f - 1)
   pub inside : at + width ≤ length t
+
+-- where that is: in a block of the file, behind the block's head and inside the block, in a record that the block
+-- counts; behind the record's key where the field is no key field
+pub record InBlock (t : List ℕ) (h : Header) (b p f width at : ℕ) : Type 0 where
+  pub low : 1 ≤ b
+  pub high : b ≤ h .blocks
+  pub count : ℕ
+  pub counted : countIn t (shapeOf h) b ≡ Records count
+  pub below : p < count
+  pub in-record : recordAt (shapeOf h) b p ≤ at
+  pub record-end : at + width ≤ recordAt (shapeOf h) b p + h .«record_size»
+  pub behind-head : blockAt (shapeOf h) b + blockHead ≤ at
+  pub block-end : at + width ≤ blockAt (shapeOf h) b + h .«block_size»
+  pub behind-key : h .«key_fields» < f → recordAt (shapeOf h) b p + h .«key_length» ≤ at
+
+-- ---- two tables
+
+-- two tables, each with the numbers of a header, have the same blocks, fields and counts
+pub record SamePlaces (t : List ℕ) (h : Header) (u : List ℕ) (k : Header) : Type 0 where
+  pub shape : shapeOf k ≡ shapeOf h
+  pub fields : (f : ℕ) → fieldOf u k f ≡ fieldOf t h f
+  pub counts : (b : ℕ) → 1 ≤ b → b ≤ shapeOf h .blocks → countIn u (shapeOf h) b ≡ countIn t (shapeOf h) b

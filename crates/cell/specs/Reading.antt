@@ -3,6 +3,7 @@ use Prim.Native.Nat.{ℕ, _+_, _-_}
 use mathlib.Core.Path.{_≡_}
 use mathlib.Core.Bool.{Bool, true, false, cond, not, _&&_}
 use mathlib.Core.List.{List, [], _∷_, _++_}
+use mathlib.Core.Logic.{_⊎_}
 use lib.Dec.{eqb, leb}
 use lib.IntN.{ℤ, pos, negsuc}
 use lib.Ieee.{Float, binary64, ofBits}
@@ -22,7 +23,7 @@ use Rattle.header.specs.declared.field.Field.the-variants as Fie
 use Rattle.blocks.specs.Shape.{shapeOf}
 use Rattle.blocks.specs.declared.Shape.{Shape}
 use Rattle.cell.specs.Values.{Content, answerOf, partOf}
-use Rattle.cell.specs.Locating.{fieldAt, placeAt, placeRefusals, Located}
+use Rattle.cell.specs.Locating.{fieldAt, placeAt, placeRefusals, BothSteps, Located}
 use Rattle.cell.specs.declared.value.Value.{Value}
 use Rattle.cell.specs.declared.value.Value.the-variants as Val
 use Rattle.cell.specs.declared.value.Cell.{Cell}
@@ -130,3 +131,17 @@ pub record Stands (t : List ℕ) (h : Header) (b p f : ℕ) (v : Value) : Type 0
   pub at : ℕ
   pub located : Located t h b p f kind width at
   pub means : cellAt kind t at width ≡ Is v
+
+-- ---- what an answer tells of the cell
+
+-- an answer by a cell's bytes: a value, or 11
+abbrev pub ByBytes : Cell → Type 0
+ByBytes c = ((v : Value) × (c ≡ Is v)) ⊎ (c ≡ Refused noMeaning)
+
+-- the table has the cell at a block, place and field, and it is no blob's
+pub record HasCell (t : List ℕ) (h : Header) (b p f : ℕ) : Type 0 where
+  pub kind : FieldKind
+  pub width : ℕ
+  pub at : ℕ
+  pub steps : BothSteps t h b p f kind width at
+  pub no-blob : isBlob kind ≡ false

@@ -1,5 +1,6 @@
--- Which bytes a value has in a cell, and what writing it answers. Definitions only.
-use Prim.Native.Nat.{ℕ, suc, _+_, _-_}
+-- Which bytes a value has in a cell, what writing it answers, and when what was written reads back. Definitions only.
+use Prim.Native.Nat.{ℕ, suc, _+_, _-_, _≤_}
+use mathlib.Core.Path.{_≡_}
 use mathlib.Core.Bool.{Bool, true, false, cond, not, _&&_}
 use mathlib.Core.List.{List, [], _∷_, _++_}
 use lib.Dec.{eqb, leb, ltb}
@@ -17,7 +18,8 @@ use Rattle.header.specs.declared.kind.FieldKind.the-variants as Kin
 use Rattle.header.specs.declared.kind.StoredKind.{StoredKind}
 use Rattle.header.specs.declared.kind.StoredKind.the-variants.{Kind, Unknown}
 use Rattle.cell.specs.Values.{Content, nothing, blank, short, long, date, number, logical, text, contentOf}
-use Rattle.cell.specs.Reading.{isDate, falseByte, trueByte}
+use Rattle.cell.specs.Values.{answerOf}
+use Rattle.cell.specs.Reading.{isDate, falseByte, trueByte, cellAt}
 use Rattle.cell.specs.declared.value.Value.{Value}
 
 -- ---- the stored form
@@ -49,6 +51,11 @@ unfoldable pub numberForm : ℕ → Float → Form
 numberForm w x =
     cond (finite x && not (minusZero x)) (bytes (digits w (complemented (half w) (toBits binary64 x)))) none
 
+-- logical: its byte
+abbrev pub logicalByte : Bool → ℕ
+logicalByte false = falseByte
+logicalByte true = trueByte
+
 -- no byte is zero
 abbrev pub noZero : List ℕ → Bool
 noZero s = each (λ (i : ℕ). not (eqb (byte s i) 0)) (length s)
@@ -65,7 +72,7 @@ formOf w (short z) = signedForm w z
 formOf w (long z) = signedForm w z
 formOf w (date d) = dateForm w d
 formOf w (number x) = numberForm w x
-formOf w (logical b) = bytes (digits w (cond b trueByte falseByte))
+formOf w (logical b) = bytes (digits w (logicalByte b))
 formOf w (text s) = textForm w s
 
 -- ---- writing
@@ -122,3 +129,19 @@ writeRefusals = badArgument ∷ blobCell ∷ shortBuffer ∷ noMeaning ∷ []
 -- the same of a Value, whose text is a part of lent bytes
 abbrev pub writtenOf : ℕ → ℕ → List ℕ → Value → List ℕ → ℕ × List ℕ
 writtenOf code w s v buffer = writeOf code w (contentOf s v) buffer
+
+-- ---- the round trip
+
+-- a value that was written: code and width are a kind's, the buffer has room, its first w bytes read as the value, a
+-- double bit by bit, the bytes behind them are as before, and so is the buffer's length
+pub record ReadsBack (code w : ℕ) (c : Content) (before after : List ℕ) : Type 0 where
+  pub kind : FieldKind
+  pub coded : kindOf code w ≡ Kind kind
+  pub room : w ≤ length before
+  pub reads : answerOf after (cellAt kind after 0 w) ≡ (0, c)
+  pub rest : drop w after ≡ drop w before
+  pub long : length after ≡ length before
+
+-- where the answer is 0, a Value, whose text is a part of lent bytes, reads back
+abbrev pub WrittenReads : ℕ → ℕ → List ℕ → Value → List ℕ → ℕ × List ℕ → Type 0
+WrittenReads code w s v before (n, after) = n ≡ 0 → ReadsBack code w (contentOf s v) before after

@@ -1,10 +1,8 @@
 // The number that a cell stores for a value, kind by kind.
 // The module is private: its functions are helpers of `cell::write`.
 ghost use mathlib.Core.Path.{_≡_};
-ghost use mathlib.Core.Bool.{cond};
 ghost use Rattle.words.specs.Numbers.{digits};
-ghost use Rattle.cell.specs.Reading.{falseByte, trueByte};
-ghost use Rattle.cell.specs.Writing.{bytes, dateForm, numberForm, signedForm};
+ghost use Rattle.cell.specs.Writing.{bytes, dateForm, logicalByte, numberForm, signedForm};
 ghost use Rattle.cell.specs.Steps.{codedForm};
 use crate::double;
 use crate::limits;
@@ -70,7 +68,7 @@ pub fn number_form(x: f64) -> Coded
 
 // A logical always has a form.
 pub fn logical_form(b: bool) -> Coded
-    ensures { λ r. ⌜ codedForm 1 r ≡ bytes (digits 1 (cond b trueByte falseByte)) ⌝ }
+    ensures { λ r. ⌜ codedForm 1 r ≡ bytes (digits 1 (logicalByte b)) ⌝ }
 {
     if b {
         return Coded::Number(limits::TRUE);

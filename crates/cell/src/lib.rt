@@ -28,7 +28,7 @@ ghost use Rattle.words.specs.Order.{behind};
 ghost use Rattle.header.specs.Rules.{Accepted};
 ghost use Rattle.cell.specs.Values.{answerOf, textOf};
 ghost use Rattle.cell.specs.Reading.{blockCell, cellOf, readOf, textStart};
-ghost use Rattle.cell.specs.Writing.{writtenOf};
+ghost use Rattle.cell.specs.Writing.{WrittenReads, writtenOf};
 use header::Field;
 use header::FieldKind;
 use header::Header;
@@ -82,9 +82,11 @@ pub fn text(table: &[u8], block: usize, place: usize, field: usize) -> &[u8]
 
 // Writes a value as a cell of this type code and width to the front of a buffer. A text is the part of
 // `text` that the value names; 13 where there is no such part. Answers 0, or the first of 13, 12, 14 and
-// 11 that applies, and then the buffer is as it was. Behind the width no byte is touched.
+// 11 that applies, and then the buffer is as it was. Behind the width no byte is touched. Where the answer is 0 the
+// first `width` bytes read as the value, a double bit by bit.
 pub fn write(code: u8, width: usize, value: Value, text: &[u8], buffer: &mut [u8]) -> u8
     ensures { λ r. ⌜ (r, now (buffer .exit)) ≡ writtenOf code width (now (text .entry)) value (now (buffer .entry)) ⌝ }
+    ensures { λ r. ⌜ WrittenReads code width (now (text .entry)) value (now (buffer .entry)) (r, now (buffer .exit)) ⌝ }
 {
     let StoredKind::Kind(kind) = FieldKind::of(code, width) else {
         return refusal::BAD_ARGUMENT;

@@ -4,3 +4,4 @@ pub mod MarkLaws
 pub mod SumLaws
 pub mod RuleLaws
 pub mod GoodChainLaws
+pub mod SameLaws

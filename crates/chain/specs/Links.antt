@@ -1,5 +1,6 @@
 -- The links of a table: the first two words of each block's head, and three words of the header. Definitions only.
 use Prim.Native.Nat.{ℕ, _+_}
+use mathlib.Core.Path.{_≡_}
 use mathlib.Core.List.{List}
 use Rattle.words.specs.Numbers.{word}
 use Rattle.header.specs.declared.Header.{Header}
@@ -39,3 +40,14 @@ usedOf t h = usedChain (h .blocks) (linksOf t h)
 
 abbrev pub freeOf : List ℕ → Header → List ℕ
 freeOf t h = freeChain (h .blocks) (linksOf t h)
+
+-- ---- two tables, each with the numbers of a header
+
+-- they have the same links: the same next and previous of every block, the same first, last and first free one
+pub record SameLinks (t : List ℕ) (h : Header) (u : List ℕ) (k : Header) : Type 0 where
+  pub blocks : k .blocks ≡ h .blocks
+  pub next : (b : ℕ) → nextOf u (shapeOf k) b ≡ nextOf t (shapeOf h) b
+  pub previous : (b : ℕ) → previousOf u (shapeOf k) b ≡ previousOf t (shapeOf h) b
+  pub first : k .first ≡ h .first
+  pub last : k .last ≡ h .last
+  pub free : k .free ≡ h .free

@@ -4,15 +4,17 @@ use Prim.Native.Nat.{ℕ, zero, suc, _+_, _-_, _*_, _≤_, _<_}
 use mathlib.Core.Path.{_≡_, refl, sym, _∙_, ap}
 use mathlib.Core.Bool.{Bool, true, false, cond, _&&_}
 use mathlib.Core.List.{List, _∷_}
+use mathlib.Core.Logic.{_⊎_, inl, inr}
 use native.Mathlib.Nat.{not-suc-le-zero}
 use native.Mathlib.Omega.{arith}
 use lib.Dec.{leb}
 use lib.ListN.{length}
 use borrow.Author.Tests.{le-leb, lt-leb, leb-true, leb-false}
 use Rattle.words.specs.Numbers.{byte}
+use Rattle.words.proofs.Cases.{compared}
 use Rattle.header.specs.Refusals.{oneOf, headerRefusals}
 use Rattle.header.specs.Stored.{storedOf, areaAt, namesAt}
-use Rattle.header.specs.Fields.{widthAt, kindAt, widthSum}
+use Rattle.header.specs.Fields.{codeAt, widthAt, kindAt, widthSum}
 use Rattle.header.specs.Header.{headerRefusal}
 use Rattle.header.specs.Numbers.{numbersWith, numbersIn, numbersOf, fieldWith, fieldOf}
 use Rattle.header.specs.Answers.{unlessRefused, headerFirst, refusedWith, acceptedWith, headerAnswer}
@@ -23,10 +25,10 @@ use Rattle.header.specs.declared.kind.FieldKind.{FieldKind}
 use Rattle.header.specs.declared.kind.StoredKind.{StoredKind}
 use Rattle.header.specs.declared.kind.StoredKind.the-variants.{Kind, Unknown}
 use Rattle.header.specs.declared.field.Field.the-variants.{Is, Missing}
-use Rattle.header.proofs.KindLaws.{kind-width, known-width}
+use Rattle.header.proofs.KindLaws.{kind-width, known-width, pair-known}
 use Rattle.header.proofs.FieldLaws.{offset-at, offsets-length}
 use Rattle.header.proofs.VerdictLaws.{unless-kept, unless-refused}
-use Rattle.header.proofs.RefusalLaws.{one-of-rest, header-refusals}
+use Rattle.header.proofs.RefusalLaws.{one-of-rest, unless-holds, header-refusals}
 use Rattle.header.proofs.RuleLaws.{verdict-gives, verdict-takes}
 
 -- ---- the verdict
@@ -86,8 +88,10 @@ module _ (t : List ℕ) (e : headerRefusal t ≡ 0) where
       let r = accepted-gives t e in
       let l = r .limits in
       let f = r .fields in
-      let known : (i : ℕ) → i < s .fields → 1 ≤ widthAt t area i =
-      λ i k. known-width (byte t (area + 2 * i)) (widthAt t area i) (f .pairs i k) in
+      let known : (i : ℕ) → i < s .fields → kindAt t area i ≡ Unknown → ⊥ =
+      λ i k. let (kind, good) = f .pairs i k in pair-known (codeAt t area i) (widthAt t area i) kind good in
+      let wide : (i : ℕ) → i < s .fields → 1 ≤ widthAt t area i =
+      λ i k. known-width (codeAt t area i) (widthAt t area i) (known i k) in
       let most : widthSum t area (s .«key_fields») ≤ widthSum t area (s .fields) =
       sum-mono t area (s .«key_fields») (s .fields) (l .keys-most) in
       let inside = names-inside t (s .«header_size») (s .fields) (namesAt s) (l .fields-least) (f .names) in
@@ -110,8 +114,8 @@ module _ (t : List ℕ) (e : headerRefusal t ≡ 0) where
         widths = f .widths;
         key-length = refl;
         key-most = omega (arith, most, f .widths);
-        key-least = λ k. sum-some t area (s .«key_fields») k (λ i j. known i (omega (arith, l .keys-most)));
-        pairs = f .pairs;
+        key-least = λ k. sum-some t area (s .«key_fields») k (λ i j. wide i (omega (arith, l .keys-most)));
+        pairs = known;
         named = f .names;
       }
 
@@ -158,12 +162,10 @@ module _ (t : List ℕ) (r : HeaderAnswer) (read : r ≡ headerAnswer t) where
 pub first-holds : {A : Type 0} (t : List ℕ) (refused : ℕ → A) (others : A) (Holds : A → Type 0) →
     ((n : ℕ) → oneOf headerRefusals n ≡ true → Holds (refused n)) → (Accepted t (numbersOf t) → Holds others)
     → Holds (headerFirst t refused others)
-unfolding headerFirst unlessRefused
-first-holds t refused others Holds refusals kept = go (headerRefusal t) refl (header-refusals t)
-  where
-    go : (n : ℕ) → headerRefusal t ≡ n → oneOf (0 ∷ headerRefusals) n ≡ true → Holds (unlessRefused n refused others)
-    go zero e w = kept (accepted t e)
-    go (suc n) e w = refusals (suc n) (one-of-rest (suc n) 0 headerRefusals (λ z. omega arith) w)
+unfolding headerFirst
+first-holds t refused others Holds refusals kept =
+    unless-holds headerRefusals (headerRefusal t) refused others Holds (header-refusals t) refusals
+    (λ e. kept (accepted t e))
 
 -- an answer that is none of their refusals is what comes after the rules, and they are kept
 pub first-only : {A : Type 0} (t : List ℕ) (refused : ℕ → A) (others answer : A) →
@@ -241,3 +243,33 @@ module _ (t : List ℕ) (h : Header) (a : Accepted t h) (f : ℕ) where
       go : (k : StoredKind) → kindAt t (h .area) (f - 1) ≡ k → ⊥
       go Unknown g = a .pairs (f - 1) (omega arith) g
       go (Kind kind) g = let z : _≡_ {A = ℕ} 0 1 = cc (field-here t h f l m) in omega arith
+
+-- ---- two fields of one record, and the key
+
+module _ (t : List ℕ) (h : Header) (a : Accepted t h) (f : ℕ) (kind : FieldKind) (width offset : ℕ)
+    (d : fieldOf t h f ≡ Is kind width offset) where
+  -- a field ends where the fields behind it begin, or before
+  pub fields-behind : (g : ℕ) (other : FieldKind) (wide at : ℕ) → fieldOf t h g ≡ Is other wide at → f < g
+      → offset + width ≤ at
+  unfolding widthSum
+  fields-behind g other wide at e l =
+      let c = field-bounds t h a f kind width offset d in
+      let k = field-bounds t h a g other wide at e in
+      omega (arith, c .wide, c .starts, k .starts, sum-mono t (h .area) (suc (f - 1)) (g - 1) (omega (arith, c .least)))
+
+  -- a field behind the key fields begins behind the key
+  pub behind-key : h .«key_fields» < f → h .«key_length» ≤ offset
+  behind-key l =
+      let c = field-bounds t h a f kind width offset d in
+      omega (arith, c .starts, a .key-length, sum-mono t (h .area) (h .«key_fields») (f - 1) (omega arith))
+
+-- two fields don't overlap
+module _ (t : List ℕ) (h : Header) (a : Accepted t h) where
+  pub fields-apart : (f : ℕ) (kind : FieldKind) (width offset : ℕ) → fieldOf t h f ≡ Is kind width offset
+      → (g : ℕ) (other : FieldKind) (wide at : ℕ) → fieldOf t h g ≡ Is other wide at → (f ≡ g → ⊥)
+      → (offset + width ≤ at) ⊎ (at + wide ≤ offset)
+  fields-apart f kind width offset d g other wide at e different =
+      compared f g
+      (λ l. inl (fields-behind t h a f kind width offset d g other wide at e l))
+      (λ z. absurd (different z))
+      (λ l. inr (fields-behind t h a g other wide at e f kind width offset d l))

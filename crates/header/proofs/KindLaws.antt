@@ -1,13 +1,17 @@
--- The table of field kinds, looked up. Assumes nothing.
+-- The table of field kinds: a code and a width looked up in it, and its rows. Assumes nothing.
 use Prim.Native.Nat.{ℕ, _≤_, _<_}
-use mathlib.Core.Path.{_≡_, refl, sym}
-use mathlib.Core.Bool.{Bool, true, false, cond, _&&_, true≢false}
-use mathlib.Core.List.{List, [], _∷_}
+use mathlib.Core.Path.{_≡_, refl, sym, _∙_}
+use mathlib.Core.Bool.{Bool, true, false, cond, not, _&&_, true≢false}
+use mathlib.Core.List.{List, [], _∷_, List·Memᴰ, List·Memᴰ·head, List·Memᴰ·tail, List·Memᴰ·not-nil}
+use mathlib.Core.List.{List·Memᴰ·cases-cons}
+use mathlib.Core.Logic.{_⊎_, inl, inr}
 use native.Mathlib.Nat.{le-antisymm}
 use native.Mathlib.Omega.{arith}
 use lib.Dec.{eqb, leb}
-use borrow.Author.Tests.{ne-eqb, le-leb, lt-leb, leb-true, leb-false}
+use borrow.Author.Tests.{eq-eqb, ne-eqb, eqb-true, eqb-false, le-leb, lt-leb, leb-true, leb-false, not-true}
+use Rattle.words.proofs.Conjunctions.{both}
 use Rattle.header.specs.Kinds.{Row, row, kinds, permit, kindIn, kindOf, isBlob, Permitted}
+use Rattle.header.specs.Rules.{GoodPair}
 use Rattle.header.specs.declared.kind.FieldKind.{FieldKind}
 use Rattle.header.specs.declared.kind.FieldKind.the-variants.{Text, Date, Short, Long, Number, Logical, Blob}
 use Rattle.header.specs.declared.kind.StoredKind.{StoredKind}
@@ -150,6 +154,109 @@ known-width code width h = go (kindOf code width) refl
     go : (k : StoredKind) → kindOf code width ≡ k → 1 ≤ width
     go Unknown e = absurd (h e)
     go (Kind kind) e = permitted-some kind width (kind-width code width kind e)
+
+-- ---- the table by its rows: a pair has a kind exactly when a row permits it
+
+-- no row has a code
+without : ℕ → List Row → Bool
+without code [] = true
+without code (row its kind least most ∷ rows) = not (eqb code its) && without code rows
+
+-- no two rows have the same code
+distinct : List Row → Bool
+distinct [] = true
+distinct (row code kind least most ∷ rows) = without code rows && distinct rows
+
+-- the code of a row is not one that no row has
+apart : (its code : ℕ) (kind : FieldKind) (least most : ℕ) (rows : List Row) → without its rows ≡ true →
+    List·Memᴰ (row code kind least most) rows → eqb code its ≡ false
+unfolding without
+apart its code kind least most [] w m = absurd (List·Memᴰ·not-nil m)
+apart its code kind least most (row one k l n ∷ rows) w m =
+    let p = both {a = not (eqb its one)} {b = without its rows} w in
+    go (p .0) (apart its code kind least most rows (p .1)) (List·Memᴰ·cases-cons m)
+  where
+    go : not (eqb its one) ≡ true → (List·Memᴰ (row code kind least most) rows → eqb code its ≡ false) →
+        (row code kind least most ≡ row one k l n) ⊎ List·Memᴰ (row code kind least most) rows → eqb code its ≡ false
+    go ne ih (inl e) =
+        let same : code ≡ one = cc in
+        ne-eqb code its (λ f. eqb-false its one (not-true (eqb its one) ne) (sym f ∙ same))
+    go ne ih (inr later) = ih later
+
+-- a row of some rows that permits a pair
+record RowFor (rows : List Row) (code width : ℕ) (kind : FieldKind) : Type 0 where
+  least : ℕ
+  most : ℕ
+  listed : List·Memᴰ (row code kind least most) rows
+  low : least ≤ width
+  high : width ≤ most
+
+row-gives : (rows : List Row) (code width : ℕ) (kind : FieldKind) → kindIn rows code width ≡ Kind kind →
+    RowFor rows code width kind
+unfolding kindIn
+row-gives [] code width kind e = let z : _≡_ {A = ℕ} 0 1 = cc in absurd (omega arith)
+row-gives (row its k l m ∷ rows) code width kind e = go (eqb code its) refl e (row-gives rows code width kind)
+  where
+    go : (b : Bool) → eqb code its ≡ b → cond b (permit k width l m) (kindIn rows code width) ≡ Kind kind →
+        (kindIn rows code width ≡ Kind kind → RowFor rows code width kind) →
+        RowFor (row its k l m ∷ rows) code width kind
+    go true f g ih =
+        let p = permit-gives k kind width l m g in
+        let same : row code kind l m ≡ row its k l m = rw (eqb-true code its f, p .0) in
+        record { least = l; most = m; listed = List·Memᴰ·head same; low = p .1; high = p .2 }
+    go false f g ih =
+        let r = ih g in
+        record {
+          least = r .least;
+          most = r .most;
+          listed = List·Memᴰ·tail (r .listed);
+          low = r .low;
+          high = r .high;
+        }
+
+row-takes : (rows : List Row) → distinct rows ≡ true → (code width : ℕ) (kind : FieldKind) (least most : ℕ) →
+    List·Memᴰ (row code kind least most) rows → least ≤ width → width ≤ most → kindIn rows code width ≡ Kind kind
+unfolding kindIn distinct
+row-takes [] d code width kind least most m low high = absurd (List·Memᴰ·not-nil m)
+row-takes (row its k l n ∷ rows) d code width kind least most m low high =
+    let p = both {a = without its rows} {b = distinct rows} d in
+    go (row-takes rows (p .1) code width kind least most) (apart its code kind least most rows (p .0))
+    (List·Memᴰ·cases-cons m)
+  where
+    go : (List·Memᴰ (row code kind least most) rows → least ≤ width → width ≤ most →
+        kindIn rows code width ≡ Kind kind) → (List·Memᴰ (row code kind least most) rows → eqb code its ≡ false) →
+        (row code kind least most ≡ row its k l n) ⊎ List·Memᴰ (row code kind least most) rows →
+        cond (eqb code its) (permit k width l n) (kindIn rows code width) ≡ Kind kind
+    go ih ne (inl e) =
+        let code-same : code ≡ its = cc in
+        let kind-same : kind ≡ k = cc in
+        let least-same : least ≡ l = cc in
+        let most-same : most ≡ n = cc in
+        rw (eq-eqb code its code-same, ← kind-same, ← least-same, ← most-same)
+        (permit-within kind width least most low high)
+    go ih ne (inr later) = rw (ne later) (ih later low high)
+
+-- the codes of the table are distinct
+kinds-distinct : distinct kinds ≡ true
+unfolding kinds distinct without
+kinds-distinct = refl
+
+module _ (code width : ℕ) (kind : FieldKind) where
+  pub kind-gives : kindOf code width ≡ Kind kind → GoodPair code width kind
+  unfolding kindOf
+  kind-gives e =
+      let r = row-gives kinds code width kind e in
+      record { least = r .least; most = r .most; listed = r .listed; wide-enough = r .low; narrow-enough = r .high }
+
+  pub kind-takes : GoodPair code width kind → kindOf code width ≡ Kind kind
+  unfolding kindOf
+  kind-takes p =
+      row-takes kinds kinds-distinct code width kind (p .least) (p .most) (p .listed) (p .wide-enough)
+      (p .narrow-enough)
+
+  -- a pair that the table permits is not unknown
+  pub pair-known : GoodPair code width kind → kindOf code width ≡ Unknown → ⊥
+  pair-known p e = let k = kind-takes p in let z : _≡_ {A = ℕ} 0 1 = cc in omega arith
 
 -- ---- blobs
 

@@ -8,3 +8,4 @@ pub mod HeaderLaws
 pub mod RuleLaws
 pub mod AcceptedLaws
 pub mod NamedLaws
+pub mod SameLaws

@@ -92,6 +92,12 @@ name-inside t f =
     first-holds t Refused (nameIn t (numbersOf t) f) (NameInside t) (λ n l. refused-inside t n)
     (λ a. in-inside t (numbersOf t) a f)
 
+-- a refused name hands out no part
+pub refused-no-name : (t : List ℕ) (f n : ℕ) → nameOf t f ≡ Refused n →
+    (nameBytes t (nameOf t f) ≡ []) × (nameBegin (nameOf t f) ≡ 0)
+unfolding nameBytes nameBegin
+refused-no-name t f n e = (ap (nameBytes t) e, ap nameBegin e)
+
 -- it is refused with one of rules 1 to 7, or with 13
 pub name-refusals : (t : List ℕ) (f n : ℕ) → nameOf t f ≡ Refused n →
     oneOf (headerRefusals ++ badArgument ∷ []) n ≡ true

@@ -1,6 +1,6 @@
 -- Rules 1 to 7 answer 0 or one of their own refusals, by the order in which they are tried; and lists of refusals, put
 -- one behind another. Assumes nothing.
-use Prim.Native.Nat.{ℕ, _≤_}
+use Prim.Native.Nat.{ℕ, zero, suc, _≤_}
 use mathlib.Core.Path.{_≡_, refl, sym, _∙_, ap}
 use mathlib.Core.Bool.{Bool, true, false, _||_, true≢false}
 use mathlib.Core.List.{List, [], _∷_, _++_}
@@ -14,6 +14,7 @@ use Rattle.header.specs.Stored.{storedOf, encryptionAt}
 use Rattle.header.specs.Fields.{fieldsRight}
 use Rattle.header.specs.Header.{longEnough, isTable, knownVersion, unencrypted, limitsKept, storedLength}
 use Rattle.header.specs.Header.{limitsVerdict, fieldsVerdict, headerVerdict, headerRefusal}
+use Rattle.header.specs.Answers.{unlessRefused}
 
 -- ---- lists
 
@@ -51,6 +52,25 @@ module _ (n : ℕ) where
   -- and it is none that the list does not have
   pub one-of-not : (ms : List ℕ) (m : ℕ) → oneOf ms n ≡ true → oneOf ms m ≡ false → n ≡ m → ⊥
   one-of-not ms m w h e = true≢false (sym w ∙ ap (oneOf ms) e ∙ h)
+
+-- what each of a verdict's refusals has, and what comes after it where it is 0, every answer by that verdict has
+pub unless-holds : {A : Type 0} (refusals : List ℕ) (n : ℕ) (refused : ℕ → A) (others : A) (Holds : A → Type 0) →
+    oneOf (0 ∷ refusals) n ≡ true → ((m : ℕ) → oneOf refusals m ≡ true → Holds (refused m)) → (n ≡ 0 → Holds others)
+    → Holds (unlessRefused n refused others)
+unfolding unlessRefused
+unless-holds refusals zero refused others Holds w each kept = kept refl
+unless-holds refusals (suc n) refused others Holds w each kept =
+    each (suc n) (one-of-rest (suc n) 0 refusals (λ z. omega arith) w)
+
+-- an answer's number, by a verdict, is one of the verdict's refusals or of what comes after it
+pub unless-among : {A : Type 0} (number : A → ℕ) (refusals own : List ℕ) (n : ℕ) (refused : ℕ → A) (others : A) →
+    ((m : ℕ) → number (refused m) ≡ m) → oneOf (0 ∷ refusals) n ≡ true
+    → (n ≡ 0 → oneOf (0 ∷ own) (number others) ≡ true)
+    → oneOf (0 ∷ refusals ++ own) (number (unlessRefused n refused others)) ≡ true
+unless-among number refusals own n refused others same w after =
+    unless-holds refusals n refused others (λ a. oneOf (0 ∷ refusals ++ own) (number a) ≡ true) w
+    (λ m k. rw (same m) (one-of-back m (0 ∷ []) (refusals ++ own) (one-of-front m refusals own k)))
+    (λ e. one-of-more (number others) (0 ∷ []) refusals own (after e))
 
 -- ---- rules 1 to 7
 

@@ -15,12 +15,14 @@ use Rattle.words.proofs.EachLaws.{each-gives, each-takes}
 use Rattle.words.proofs.ZeroLaws.{before-nonzero, before-zero, before-is}
 use Rattle.header.specs.Kinds.{isBlob}
 use Rattle.header.specs.Stored.{storedOf, blockSize, encryptionAt, areaAt, namesAt}
-use Rattle.header.specs.Fields.{allowed, kindAt, pairRight, widthSum, nameLength, nameFits, namesFit, fieldsRight}
+use Rattle.header.specs.Fields.{codeAt, widthAt, allowed, kindAt, pairRight, widthSum, nameLength, nameFits}
+use Rattle.header.specs.Fields.{namesFit, fieldsRight}
 use Rattle.header.specs.Header.{leastHeader, leastVersion, mostVersion, mostUnits, blockHead, mostBlocks}
 use Rattle.header.specs.Header.{mostFields, mostRecords, longEnough, isTable, knownVersion, unencrypted}
 use Rattle.header.specs.Header.{keyedRight, limitsKept, lengthRight, limitsVerdict, storedLength}
 use Rattle.header.specs.Header.{fieldsVerdict, headerVerdict}
 use Rattle.header.specs.Rules.{Limits, Names, none, some, FieldRules, HeaderRules}
+use Rattle.header.proofs.KindLaws.{kind-gives, kind-takes, pair-known}
 use Rattle.header.proofs.VerdictLaws.{kept-of}
 use Rattle.header.specs.declared.stored.Stored.{Stored}
 use Rattle.header.specs.declared.kind.FieldKind.{FieldKind}
@@ -121,9 +123,10 @@ limits-take s l =
 
 -- ---- 7: pairs
 
-allowed-unknown : (keyed : Bool) (k : StoredKind) → allowed keyed k ≡ true → k ≡ Unknown → ⊥
+allowed-kind : (keyed : Bool) (k : StoredKind) → allowed keyed k ≡ true → (kind : FieldKind) × (k ≡ Kind kind)
 unfolding allowed
-allowed-unknown keyed k e f = false≢true (rw f at e)
+allowed-kind keyed (Kind kind) e = (kind, refl)
+allowed-kind keyed Unknown e = absurd (false≢true e)
 
 allowed-blob : (k : StoredKind) → allowed true k ≡ true → k ≡ Kind Blob → ⊥
 unfolding allowed isBlob
@@ -189,11 +192,13 @@ fields-give t s k e =
     (eqb (widthSum t area (s .fields)) (s .«record_size»)) .0 (p .0) in
     record {
       pairs =
-          λ f l. allowed-unknown (ltb f (s .«key_fields»)) (kindAt t area f)
-          (each-gives (pairRight t area (s .«key_fields»)) (s .fields) (q .0) f l);
+          λ f l. let k = allowed-kind (ltb f (s .«key_fields»)) (kindAt t area f)
+          (each-gives (pairRight t area (s .«key_fields»)) (s .fields) (q .0) f l) in
+          (k .0, kind-gives (codeAt t area f) (widthAt t area f) (k .0) (k .1));
       keys =
-          λ f l. allowed-blob (kindAt t area f) (rw (lt-ltb f (s .«key_fields») l) at
-          (each-gives (pairRight t area (s .«key_fields»)) (s .fields) (q .0) f (omega arith)));
+          λ f l g. allowed-blob (kindAt t area f) (rw (lt-ltb f (s .«key_fields») l) at
+          (each-gives (pairRight t area (s .«key_fields»)) (s .fields) (q .0) f (omega arith)))
+          (kind-takes (codeAt t area f) (widthAt t area f) Blob g);
       widths = eqb-true (widthSum t area (s .fields)) (s .«record_size») (q .1);
       names = names-give t (s .«header_size») (s .fields) (namesAt s) (p .1);
     }
@@ -204,8 +209,9 @@ fields-take t s r =
     let area = areaAt (s .version) in
     let a : each (pairRight t area (s .«key_fields»)) (s .fields) ≡ true = each-takes
     (pairRight t area (s .«key_fields»)) (s .fields)
-    (λ f l. allowed-takes (ltb f (s .«key_fields»)) (kindAt t area f) (r .pairs f l)
-    (λ k. r .keys f (ltb-true f (s .«key_fields») k))) in
+    (λ f l. let (kind, good) = r .pairs f l in allowed-takes (ltb f (s .«key_fields»)) (kindAt t area f)
+    (pair-known (codeAt t area f) (widthAt t area f) kind good)
+    (λ k e. r .keys f (ltb-true f (s .«key_fields») k) (kind-gives (codeAt t area f) (widthAt t area f) Blob e))) in
     rw (
       a,
       eq-eqb (widthSum t area (s .fields)) (s .«record_size») (r .widths),

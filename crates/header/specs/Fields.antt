@@ -16,13 +16,17 @@ use Rattle.header.specs.declared.kind.StoredKind.the-variants.{Kind, Unk
 
 -- ---- pairs: a type byte and a width byte a field
 
+-- the code that is stored for field f of a field area
+abbrev pub codeAt : List ℕ → ℕ → ℕ → ℕ
+codeAt t area f = byte t (area + 2 * f)
+
 -- the width that is stored for field f of a field area
 abbrev pub widthAt : List ℕ → ℕ → ℕ → ℕ
 widthAt t area f = byte t (area + 2 * f + 1)
 
 -- the kind that is stored for field f of a field area
 abbrev pub kindAt : List ℕ → ℕ → ℕ → StoredKind
-kindAt t area f = kindOf (byte t (area + 2 * f)) (widthAt t area f)
+kindAt t area f = kindOf (codeAt t area f) (widthAt t area f)
 
 -- whether a field may be of this kind: one that the table has, and no blob where it is a key field
 unfoldable pub allowed : Bool → StoredKind → Bool

@@ -55,7 +55,7 @@ isBlob Number = false
 isBlob Logical = false
 isBlob Blob = true
 
--- the widths that a kind permits
+-- the widths that a kind has, by any of its codes; a memo (0C) has them from 11
 unfoldable pub Permitted : FieldKind → ℕ → Type 0
 Permitted Text width = (1 ≤ width) × (width ≤ 255)
 Permitted Date width = width ≡ 4

@@ -2,13 +2,13 @@
 -- Definitions only.
 use Prim.Native.Nat.{ℕ, suc, _+_, _-_, _*_, _≤_, _<_}
 use mathlib.Core.Path.{_≡_}
-use mathlib.Core.List.{List}
+use mathlib.Core.List.{List, List·Memᴰ}
 use mathlib.Core.Logic.{_⊎_}
 use lib.ListN.{length, getD}
 use Rattle.words.specs.Numbers.{byte}
-use Rattle.header.specs.Kinds.{kindOf, Permitted}
+use Rattle.header.specs.Kinds.{row, kinds, kindOf, Permitted}
 use Rattle.header.specs.Stored.{storedOf, unit, blockSize, encryptionAt, areaAt, namesAt}
-use Rattle.header.specs.Fields.{widthAt, kindAt, widthSum, longestName}
+use Rattle.header.specs.Fields.{codeAt, widthAt, kindAt, widthSum, longestName}
 use Rattle.header.specs.Header.{leastHeader, leastVersion, mostVersion, mostUnits}
 use Rattle.header.specs.Header.{blockHead, mostBlocks, mostFields, mostRecords}
 use Rattle.header.specs.Numbers.{numbersOf}
@@ -46,10 +46,20 @@ pub data Names (t : List ℕ) (end : ℕ) : ℕ → ℕ → Type 0 where
   none : {at : ℕ} → Names t end 0 at
   some : {n at l : ℕ} → NameAt t at l → at + l < end → Names t end n (at + l + 1) → Names t end (suc n) at
 
--- 7: the table of kinds has every pair, no key field is a blob, the widths add up, the names are there
+-- a pair that the table of kinds permits: a row has this code and this kind, and the width is within its limits
+pub record GoodPair (code width : ℕ) (kind : FieldKind) : Type 0 where
+  pub least : ℕ
+  pub most : ℕ
+  pub listed : List·Memᴰ (row code kind least most) kinds
+  pub wide-enough : least ≤ width
+  pub narrow-enough : width ≤ most
+
+-- 7: the table of kinds permits every pair, no key field is a blob, the widths add up, the names are there
 pub record FieldRules (t : List ℕ) (s : Stored) : Type 0 where
-  pub pairs : (f : ℕ) → f < s .fields → kindAt t (areaAt (s .version)) f ≡ Unknown → ⊥
-  pub keys : (f : ℕ) → f < s .«key_fields» → kindAt t (areaAt (s .version)) f ≡ Kind Blob → ⊥
+  pub pairs : (f : ℕ) → f < s .fields →
+      (kind : FieldKind) × GoodPair (codeAt t (areaAt (s .version)) f) (widthAt t (areaAt (s .version)) f) kind
+  pub keys : (f : ℕ) → f < s .«key_fields» →
+      GoodPair (codeAt t (areaAt (s .version)) f) (widthAt t (areaAt (s .version)) f) Blob → ⊥
   pub widths : widthSum t (areaAt (s .version)) (s .fields) ≡ s .«record_size»
   pub names : Names t (s .«header_size») (s .fields) (namesAt s)
 
@@ -101,7 +111,7 @@ pub record FieldBounds (t : List ℕ) (h : Header) (f : ℕ) (kind : FieldKind) 
   pub least : 1 ≤ f
   pub most : f ≤ h .fields
   pub wide : width ≡ widthAt t (h .area) (f - 1)
-  pub stored : kindOf (byte t (h .area + 2 * (f - 1))) width ≡ Kind kind
+  pub stored : kindOf (codeAt t (h .area) (f - 1)) width ≡ Kind kind
   pub permitted : Permitted kind width
   pub starts : offset ≡ widthSum t (h .area) (f - 1)
   pub inside : offset + width ≤ h .«record_size»

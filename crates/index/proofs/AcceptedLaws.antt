@@ -6,7 +6,8 @@ use mathlib.Core.List.{List}
 use mathlib.Core.Logic.{_⊎_, inl, inr}
 use native.Mathlib.Omega.{arith}
 use Rattle.index.specs.Stored.{storedOf}
-use Rattle.index.specs.Header.{mostLevels, indexAnswer, refusedWith, acceptedOf, answerWith, indexOf}
+use Rattle.index.specs.Header.{mostLevels, indexAnswer, refusedWith, acceptedOf, indexNumbers, answerWith}
+use Rattle.index.specs.Header.{indexOf}
 use Rattle.index.specs.Rules.{Rooted, IndexRules, AcceptedIndex}
 use Rattle.index.specs.declared.stored.Stored.{Stored}
 use Rattle.index.proofs.RuleLaws.{answer-gives, answer-takes}
@@ -20,7 +21,7 @@ refusal-with (suc m) x = refl
 
 module _ (x : List ℕ) (n : ℕ) where
   -- the header's number is the first broken rule's
-  refusal-is : indexOf x n .refusal ≡ indexAnswer x n
+  pub refusal-is : indexOf x n .refusal ≡ indexAnswer x n
   unfolding indexOf
   refusal-is = refusal-with (indexAnswer x n) x
 
@@ -48,17 +49,18 @@ some-levels s (inl p) h = absurd (h (p .0))
 some-levels s (inr r) h = r .levels-least
 
 module _ (x : List ℕ) (n : ℕ) (e : indexOf x n .refusal ≡ 0) where
-  numbers : indexOf x n ≡ acceptedOf (storedOf x)
+  -- its numbers are those that are stored
+  pub accepted-numbers : indexOf x n ≡ indexNumbers x
   unfolding indexOf answerWith
-  numbers = let f : indexAnswer x n ≡ 0 = sym (refusal-is x n) ∙ e in rw f
+  accepted-numbers = let f : indexAnswer x n ≡ 0 = sym (refusal-is x n) ∙ e in rw f
 
-  stored-accepted : AcceptedIndex x n (acceptedOf (storedOf x))
+  stored-accepted : AcceptedIndex x n (indexNumbers x)
   unfolding acceptedOf
   stored-accepted =
       let r = index-gives x n e in
       let l = r .limits in
       record {
-        same = sym numbers;
+        same = sym accepted-numbers;
         sound = record { whole = r .whole; size-least = omega (arith, l .size); size-most = l .size-most };
         entry-size = l .size;
         levels-most = few-levels (storedOf x) (l .root);
@@ -66,4 +68,4 @@ module _ (x : List ℕ) (n : ℕ) (e : indexOf x n .refusal ≡ 0) where
       }
 
   pub accepted-index : AcceptedIndex x n (indexOf x n)
-  accepted-index = rw numbers stored-accepted
+  accepted-index = rw accepted-numbers stored-accepted

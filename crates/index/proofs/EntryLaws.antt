@@ -12,11 +12,13 @@ use Rattle.words.specs.Order.{isAtMost, order}
 use Rattle.header.specs.Refusals.{indexTree}
 use Rattle.blocks.specs.Shape.{hasBlock, recordAt, RunInside}
 use Rattle.blocks.specs.Counts.{countIn}
+use Rattle.blocks.specs.Rules.{BlockHolds}
 use Rattle.blocks.specs.declared.Shape.{Shape}
 use Rattle.blocks.specs.declared.count.Count.{Count}
 use Rattle.blocks.specs.declared.count.Count.the-variants.{Records, Bad}
 use Rattle.blocks.proofs.CountLaws.{record-in-file, run-inside}
-use Rattle.blocks.proofs.ShapeLaws.{has-block}
+use Rattle.blocks.proofs.RuleLaws.{holds-gives, holds-takes}
+use Rattle.blocks.proofs.ShapeLaws.{has-block, block-there}
 use Rattle.table.specs.Records.{held}
 use Rattle.index.specs.Header.{entryNumbers}
 use Rattle.index.specs.Entries.{entriesIn, entryKey, entryBlock, below, EntriesInside}
@@ -57,6 +59,16 @@ module _ (x : List ℕ) (g : Shape) (b : ℕ) where
       by-file : (c : Bool) → hasBlock g b ≡ c → WithEntries
       by-file true e = by-count e (countIn x g b) refl
       by-file false e = absurd (omega (arith, entries-outside e))
+
+  -- and it holds as many
+  pub entries-held : 0 < entriesIn x g b → BlockHolds x g b (entriesIn x g b)
+  entries-held l =
+      let w = with-entries l in
+      record { low = w .low; high = w .high; holds = holds-gives x g b (entriesIn x g b) (w .counted) }
+
+  -- a block that holds so many has as many entries
+  pub entries-are : 1 ≤ g .«record_size» → (n : ℕ) → BlockHolds x g b n → entriesIn x g b ≡ n
+  entries-are size n h = entries-counted n (block-there g b (h .low) (h .high)) (holds-takes x g b n size (h .holds))
 
   -- ---- where they stand
 

@@ -3,4 +3,8 @@ pub mod HeaderLaws
 pub mod AcceptedLaws
 pub mod EntryLaws
 pub mod WalkLaws
+pub mod TakenLaws
+pub mod VisitLaws
+pub mod WalkRuleLaws
 pub mod ReadsLaws
+pub mod RefusalLaws

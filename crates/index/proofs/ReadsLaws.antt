@@ -20,12 +20,17 @@ use Rattle.blocks.specs.declared.count.Count.{Count}
 use Rattle.blocks.specs.declared.count.Count.the-variants.{Records, Bad}
 use Rattle.table.specs.Records.{placesFrom}
 use Rattle.lookup.specs.Sought.{keyFits}
-use Rattle.lookup.specs.declared.found.Found.the-variants.{Absent}
+use Rattle.lookup.specs.Found.{lookupOf}
+use Rattle.lookup.specs.declared.found.Found.{Found}
+use Rattle.lookup.specs.declared.found.Found.the-variants.{At, Absent, Refused}
+use Rattle.lookup.specs.Rules.{NoPlace}
+use Rattle.lookup.proofs.FoundLaws.{refused-no-place}
 use Rattle.lookup.proofs.KeyLaws.{first-answers}
 use Rattle.index.specs.Header.{mostLevels, refusedWith, indexOf}
 use Rattle.index.specs.Rules.{Reads}
 use Rattle.index.specs.Entries.{entriesIn, below}
 use Rattle.index.specs.Walk.{foundAfter, refusedWalk, byCount, inData, onward, walkFrom, walkOf, walkKey}
+use Rattle.index.specs.Walk.{walkedNumbers, walkNumbers}
 use Rattle.index.specs.declared.IndexHeader.{IndexHeader}
 use Rattle.index.specs.declared.entries.Below.{Below}
 use Rattle.index.specs.declared.entries.Below.the-variants.{Block, Nothing}
@@ -142,3 +147,14 @@ module _ (t x key : List ℕ) where
 
   pub reads-most : walkOf t x key .reads ≤ mostLevels
   reads-most = omega (arith, walk-reads .most, levels-most)
+
+  -- a refused walk hands out no place, and its count is 0
+  pub walk-no-place : (walkNumbers t x key .0 .refusal ≡ 0 → ⊥) →
+      NoPlace (walkNumbers t x key .0) × (walkNumbers t x key .1 ≡ 0)
+  unfolding walkNumbers walkedNumbers lookupOf
+  walk-no-place h = (refused-no-place (walkOf t x key .found) h, go (walkOf t x key .found) refl h)
+    where
+      go : (f : Found) → walkOf t x key .found ≡ f → (lookupOf f .refusal ≡ 0 → ⊥) → walkOf t x key .reads ≡ 0
+      go (At b p) e k = absurd (k refl)
+      go Absent e k = absurd (k refl)
+      go (Refused n) e k = walk-reads .refused n e .1

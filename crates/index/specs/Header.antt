@@ -2,7 +2,7 @@
 -- table's key length. Definitions only.
 use Prim.Native.Nat.{ℕ, zero, suc, _+_, _*_}
 use mathlib.Core.Bool.{Bool, _&&_, _||_}
-use mathlib.Core.List.{List}
+use mathlib.Core.List.{List, [], _∷_}
 use lib.Dec.{eqb, leb}
 use lib.ListN.{length}
 use Rattle.header.specs.Refusals.{indexTooShort, notAnIndex, indexVersion, indexLimit, indexLength, firstBroken}
@@ -71,6 +71,10 @@ indexAnswer x n =
     (firstBroken (limitsKept n (storedOf x)) indexLimit
     (firstBroken (lengthKept (length x) (storedOf x)) indexLength 0))))
 
+-- the refusals of these rules
+unfoldable pub indexRefusals : List ℕ
+indexRefusals = indexTooShort ∷ notAnIndex ∷ indexVersion ∷ indexLimit ∷ indexLength ∷ []
+
 -- ---- the answer
 
 -- a refusal has its number and no other: the rest is 0
@@ -99,9 +103,13 @@ acceptedOf s =
       levels = s .levels;
     }
 
+-- the header's numbers, of any bytes: no rule is asked for here
+abbrev pub indexNumbers : List ℕ → IndexHeader
+indexNumbers x = acceptedOf (storedOf x)
+
 -- the answer by its number: 0 has the numbers, any other has none
 unfoldable pub answerWith : ℕ → List ℕ → IndexHeader
-answerWith zero x = acceptedOf (storedOf x)
+answerWith zero x = indexNumbers x
 answerWith (suc number) x = refusedWith (suc number)
 
 -- what reading an index's header answers, for any bytes and any key length

@@ -3,4 +3,5 @@ pub mod Header
 pub mod Rules
 pub mod Entries
 pub mod Walk
+pub mod Visits
 pub mod Steps

@@ -2,9 +2,9 @@
 -- Definitions only.
 use Prim.Native.Nat.{ℕ, zero, suc, _+_}
 use mathlib.Core.Bool.{cond}
-use mathlib.Core.List.{List}
+use mathlib.Core.List.{List, [], _∷_, _++_}
 use lib.Dec.{eqb}
-use Rattle.header.specs.Refusals.{chainRule, wrongCount, badArgument, indexTree}
+use Rattle.header.specs.Refusals.{chainRule, wrongCount, badArgument, indexTree, headerRefusals}
 use Rattle.header.specs.Numbers.{numbersOf}
 use Rattle.header.specs.Answers.{unlessRefused, headerFirst}
 use Rattle.header.specs.declared.Header.{Header}
@@ -18,7 +18,7 @@ use Rattle.lookup.specs.Found.{Lookup, lookupOf}
 use Rattle.lookup.specs.Sought.{keyFits, firstWith}
 use Rattle.lookup.specs.declared.found.Found.{Found}
 use Rattle.lookup.specs.declared.found.Found.the-variants.{Absent, Refused}
-use Rattle.index.specs.Header.{indexOf}
+use Rattle.index.specs.Header.{indexRefusals, indexOf}
 use Rattle.index.specs.Entries.{entriesIn, below}
 use Rattle.index.specs.declared.IndexHeader.{IndexHeader}
 use Rattle.index.specs.declared.entries.Below.{Below}
@@ -65,6 +65,10 @@ fromRoot t g x i key = walkFrom t g x (i .shape) key (i .levels) (i .root) 0
 unfoldable pub walkTree : List ℕ → Shape → List ℕ → IndexHeader → List ℕ → Walked
 walkTree t g x i key = cond (eqb (i .root) 0) (foundAfter 0 Absent) (fromRoot t g x i key)
 
+-- the refusals on the way: 27, 8, 9
+abbrev pub wayRefusals : List ℕ
+wayRefusals = indexTree ∷ chainRule ∷ wrongCount ∷ []
+
 -- 21 to 26 come before it
 unfoldable pub walkIndex : List ℕ → Header → List ℕ → IndexHeader → List ℕ → Walked
 walkIndex t h x i key = unlessRefused (i .refusal) refusedWalk (walkTree t (shapeOf h) x i key)
@@ -76,6 +80,10 @@ walkKey t h x key = cond (keyFits h key) (walkIndex t h x (indexOf x (h .«key_l
 -- what walking answers, for any bytes and any key: 1 to 7 come first
 unfoldable pub walkOf : List ℕ → List ℕ → List ℕ → Walked
 walkOf t x key = headerFirst t refusedWalk (walkKey t (numbersOf t) x key)
+
+-- its refusals: 1 to 7, 13, those of the index's header, and those on the way
+unfoldable pub walkRefusals : List ℕ
+walkRefusals = headerRefusals ++ (badArgument ∷ indexRefusals ++ wayRefusals)
 
 -- ---- the same in document 01's numbers: those of every lookup, and the index blocks read
 

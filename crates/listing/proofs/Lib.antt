@@ -3,3 +3,4 @@ pub mod CellLaws
 pub mod LineLaws
 pub mod HeadLaws
 pub mod ListingLaws
+pub mod RefusalLaws

@@ -14,7 +14,7 @@ use Rattle.cell.specs.Values.{Content, nothing, blank, short, long, date, numbe
 use Rattle.cell.specs.Values.{answerOf}
 use Rattle.cell.specs.Reading.{blockCell}
 use Rattle.table.specs.Records.{Position, recordsOf}
-use Rattle.table.specs.Table.{tableAnswer}
+use Rattle.table.specs.Table.{tableAnswer, tableRefusals}
 use Rattle.buffer.specs.Text.{decimal, signedText, hexText}
 
 -- ---- ASCII: bar, exclamation mark, dot, end of line; T and F; `fields `, ` key `, ` records `, `refused `
@@ -93,6 +93,10 @@ mostBytes = 65536
 -- 14 for a longer one, before all else; then what the table check answers with marks enough
 unfoldable pub listAnswer : List ℕ → ℕ
 listAnswer t = cond (ltb mostBytes (length t)) shortBuffer (tableAnswer t mostBlocks)
+
+-- its refusals: 14, then the table check's
+unfoldable pub listRefusals : List ℕ
+listRefusals = shortBuffer ∷ tableRefusals
 
 -- the head line
 unfoldable pub headText : ℕ → ℕ → ℕ → List ℕ

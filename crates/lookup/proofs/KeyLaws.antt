@@ -9,12 +9,14 @@ use native.Mathlib.Omega.{arith}
 use lib.Dec.{eqb, leb}
 use lib.ListN.{length, getD}
 use borrow.Author.Tests.{eq-eqb, eqb-true, le-leb, leb-true}
+use Rattle.words.proofs.Cases.{either}
 use Rattle.words.proofs.Conjunctions.{both, join}
 use Rattle.words.proofs.OrderLaws.{same-gives, same-takes}
 use Rattle.header.specs.declared.Header.{Header}
 use Rattle.blocks.specs.declared.Shape.{Shape}
 use Rattle.table.specs.Records.{Position}
 use Rattle.table.specs.Keys.{keyAt}
+use Rattle.lookup.specs.Found.{lookupOf}
 use Rattle.lookup.specs.Sought.{keyFits, isSought, firstWith}
 use Rattle.lookup.specs.declared.found.Found.{Found}
 use Rattle.lookup.specs.declared.found.Found.the-variants.{At, Absent, Refused}
@@ -76,3 +78,11 @@ first-answers t g key ps n e = go (looked t g key ps)
     go : Looked t g key ps (firstWith t g key ps) → ⊥
     go (finds p i l there same at) = let z : _≡_ {A = ℕ} 0 1 = cc in omega arith
     go (misses none at) = let z : _≡_ {A = ℕ} 0 1 = cc in omega arith
+
+-- so its number is 0
+pub first-number : (t : List ℕ) (g : Shape) (key : List ℕ) (ps : List Position) →
+    lookupOf (firstWith t g key ps) .refusal ≡ 0
+unfolding lookupOf firstWith
+first-number t g key [] = refl
+first-number t g key (p ∷ ps) =
+    either (λ (r : Found). lookupOf r .refusal ≡ 0) (isSought t g key p) _ _ refl (first-number t g key ps)

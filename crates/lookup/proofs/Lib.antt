@@ -1,2 +1,3 @@
 pub mod FirstLaws
 pub mod KeyLaws
+pub mod FoundLaws

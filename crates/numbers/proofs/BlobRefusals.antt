@@ -5,7 +5,7 @@ use mathlib.Core.Path.{_≡_, refl, subst}
 use mathlib.Core.Bool.{true, false, true≢false}
 use mathlib.Core.List.{List, [], _∷_, _++_}
 use native.Mathlib.Omega.{arith}
-use lib.ListN.{length, getD, replicate}
+use lib.ListN.{length, getD}
 use Rattle.header.specs.Refusals.{shortBuffer, oneOf, headerRefusals}
 use Rattle.header.specs.Numbers.{numbersOf}
 use Rattle.header.specs.Rules.{Accepted}
@@ -18,40 +18,39 @@ use Rattle.words.proofs.Cases.{apart}
 use Rattle.blob.proofs.FindLaws.{refused-with}
 use Rattle.blob.proofs.PartLaws.{table-within, mb-within}
 use Rattle.numbers.specs.Lent.{cleared, roomFirst}
-use Rattle.numbers.specs.Blob.{partCount, ofFile, blobGiven, blobFiles, blobNumbers}
+use Rattle.numbers.specs.Blob.{partCount, ofFile, blobGiven, blobFiles, blobNumbers, RefusesBlob}
 use Rattle.numbers.proofs.LentLaws.{room-holds}
 
 -- 1 to 7, 14, 13, 9, 18
-abbrev pub ownRefusals : List ℕ
+abbrev ownRefusals : List ℕ
 ownRefusals = headerRefusals ++ shortBuffer ∷ blobRefusals
 
 own-refusal : (n : ℕ) → oneOf blobRefusals n ≡ true → oneOf ownRefusals n ≡ true
 own-refusal n w =
     one-of-back n headerRefusals (shortBuffer ∷ blobRefusals) (one-of-back n (shortBuffer ∷ []) blobRefusals w)
 
--- the answer is blank, a file or one of these refusals; and where it is refused, every lent number is 0
-pub record RefusesBlob (lent : List ℕ) (answer : ℕ × List ℕ) : Type 0 where
-  pub number : oneOf (blobFiles ++ ownRefusals) (answer .0) ≡ true
-  pub zeros : oneOf blobFiles (answer .0) ≡ false → answer .1 ≡ replicate (length lent) 0
-
 module _ (lent : List ℕ) where
-  refused : (n : ℕ) → oneOf ownRefusals n ≡ true → RefusesBlob lent (cleared lent n)
+  abbrev Right : ℕ × List ℕ → Type 0
+  Right = RefusesBlob ownRefusals lent
+
+  refused : (n : ℕ) → oneOf ownRefusals n ≡ true → Right (cleared lent n)
   unfolding cleared
   refused n w = record { number = one-of-back n blobFiles ownRefusals w; zeros = λ h. refl }
 
-  given : (t mb : List ℕ) (b p f : ℕ) → RefusesBlob lent (blobGiven lent (blockBlob t mb (numbersOf t) b p f))
+  given : (t mb : List ℕ) (b p f : ℕ) → Right (blobGiven lent (blockBlob t mb (numbersOf t) b p f))
   unfolding blobGiven oneOf
   given t mb b p f =
-      blob-holds (λ (x : Blob). RefusesBlob lent (blobGiven lent x))
+      blob-holds (λ (x : Blob). Right (blobGiven lent x))
       (record { number = refl; zeros = λ h. absurd (true≢false h) })
       (λ start len. record { number = refl; zeros = λ h. absurd (true≢false h) })
       (λ start len. record { number = refl; zeros = λ h. absurd (true≢false h) })
       (λ n w. refused n (own-refusal n w)) t mb (numbersOf t) b p f
 
-pub blob-refuses : (t mb : List ℕ) (b p f : ℕ) (lent : List ℕ) → RefusesBlob lent (blobNumbers t mb b p f lent)
+pub blob-refuses : (t mb : List ℕ) (b p f : ℕ) (lent : List ℕ) →
+    RefusesBlob (headerRefusals ++ shortBuffer ∷ blobRefusals) lent (blobNumbers t mb b p f lent)
 unfolding blobNumbers roomFirst
 blob-refuses t mb b p f lent =
-    room-holds t lent blobRefusals partCount (cleared lent) _ (RefusesBlob lent) (refused lent)
+    room-holds t lent blobRefusals partCount (cleared lent) _ (Right lent) (refused lent)
     (λ a. given lent t mb b p f)
 
 -- ---- the part

@@ -14,7 +14,7 @@ use Rattle.header.specs.declared.named.Name.the-variants as Nam
 use Rattle.header.proofs.AcceptedLaws.{field-bounds}
 use Rattle.header.proofs.NamedLaws.{name-here}
 use Rattle.numbers.specs.Lent.{cleared, inFront}
-use Rattle.numbers.specs.Header.{kindNumber, namedField, fieldGiven, codeAt, fieldIn}
+use Rattle.numbers.specs.Header.{kindNumber, namedField, fieldGiven, storedCode, fieldIn}
 
 module _ (t lent : List ℕ) (h : Header) (f : ℕ) where
   pub field-missing : fieldOf t h f ≡ Fie.Missing → cleared lent badArgument ≡ fieldIn t lent h f
@@ -30,6 +30,6 @@ module _ (t lent : List ℕ) (h : Header) (f : ℕ) where
         omega arith
 
     pub field-named : (start len : ℕ) → nameIn t h f ≡ Nam.At start len → (number : ℕ) → number ≡ kindNumber kind
-        → inFront lent (codeAt t h f ∷ number ∷ width ∷ offset ∷ start ∷ len ∷ []) ≡ fieldIn t lent h f
+        → inFront lent (storedCode t h f ∷ number ∷ width ∷ offset ∷ start ∷ len ∷ []) ≡ fieldIn t lent h f
     unfolding fieldGiven namedField
     field-named start len k number is = rw (e, k, is)

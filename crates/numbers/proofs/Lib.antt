@@ -7,5 +7,6 @@ pub mod BlobLaws
 pub mod CursorLaws
 pub mod CameLaws
 pub mod GivenLaws
+pub mod RoundTrip
 pub mod RefusalLaws
 pub mod BlobRefusals

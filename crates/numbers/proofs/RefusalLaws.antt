@@ -28,9 +28,9 @@ use Rattle.cursor.specs.declared.Cursor.{Cursor}
 use Rattle.cursor.specs.declared.Step.{Step}
 use Rattle.cursor.specs.declared.Step.the-variants.{Record, End, Refused}
 use Rattle.cursor.proofs.AnswerLaws.{start-answers, step-answers}
-use Rattle.numbers.specs.Lent.{cleared, inFront, roomFirst}
+use Rattle.numbers.specs.Lent.{cleared, inFront, roomFirst, Refuses}
 use Rattle.numbers.specs.Header.{headerList, headerCount, headerNumbers, namedField, fieldGiven, fieldCount}
-use Rattle.numbers.specs.Header.{codeAt, fieldNumbers}
+use Rattle.numbers.specs.Header.{storedCode, fieldNumbers}
 use Rattle.numbers.specs.Cells.{valueList, cellGiven, cellCount, cellNumbers, cellsList, recordPlace}
 use Rattle.numbers.specs.Cells.{recordGiven, recordNumbers}
 use Rattle.numbers.specs.Cursor.{cursorIn, came, startGiven, startLent, stepGiven, stepLent}
@@ -38,11 +38,6 @@ use Rattle.numbers.specs.Given.{contentGiven, writeGiven}
 use Rattle.numbers.proofs.LentLaws.{room-holds}
 
 -- ---- header, field, cell, record
-
--- an answer is 0 or one of these refusals, and where it is refused, every lent number is 0
-pub record Refuses (refusals lent : List ℕ) (answer : ℕ × List ℕ) : Type 0 where
-  pub number : oneOf (0 ∷ refusals) (answer .0) ≡ true
-  pub zeros : (answer .0 ≡ 0 → ⊥) → answer .1 ≡ replicate (length lent) 0
 
 -- a call with refusals of its own, behind 1 to 7 and 14
 module _ (own lent : List ℕ) where
@@ -96,7 +91,7 @@ pub field-refuses : (t : List ℕ) (f : ℕ) (lent : List ℕ) →
 unfolding fieldNumbers
 field-refuses t f lent =
     room-refuses (badArgument ∷ []) lent t fieldCount _
-    (field-among t lent f (codeAt t (numbersOf t) f) (fieldOf t (numbersOf t) f))
+    (field-among t lent f (storedCode t (numbersOf t) f) (fieldOf t (numbersOf t) f))
 
 -- 1 to 7, 14, 13, 9, 12, 11
 pub cell-refuses : (t : List ℕ) (b p f : ℕ) (lent : List ℕ) →

@@ -1,8 +1,11 @@
 -- A blob as numbers: in which file it is, and the part of that file. Definitions only.
 use Prim.Native.Nat.{ℕ, _*_}
-use mathlib.Core.List.{List, [], _∷_}
+use mathlib.Core.Path.{_≡_}
+use mathlib.Core.Bool.{true, false}
+use mathlib.Core.List.{List, [], _∷_, _++_}
 use denote.Ref.{RefT, now}
-use lib.ListN.{drop}
+use lib.ListN.{length, drop, replicate}
+use Rattle.header.specs.Refusals.{oneOf}
 use Rattle.header.specs.Numbers.{numbersOf}
 use Rattle.blob.specs.Blob.{blockBlob, neither, inTable, inMb}
 use Rattle.blob.specs.declared.answer.Blob.{Blob}
@@ -38,3 +41,8 @@ blobNumbers t mb b p f lent = roomFirst t lent partCount (blobGiven lent (blockB
 -- the same of a lent table and a lent MB file
 abbrev pub blobIn : RefT (List ℕ) → RefT (List ℕ) → ℕ → ℕ → ℕ → List ℕ → ℕ × List ℕ
 blobIn t mb b p f lent = blobNumbers (now t) (now mb) b p f lent
+
+-- an answer is blank, a file or one of these refusals; and where it is refused, every lent number is 0
+pub record RefusesBlob (refusals lent : List ℕ) (answer : ℕ × List ℕ) : Type 0 where
+  pub number : oneOf (blobFiles ++ refusals) (answer .0) ≡ true
+  pub zeros : oneOf blobFiles (answer .0) ≡ false → answer .1 ≡ replicate (length lent) 0

@@ -1,8 +1,8 @@
 -- The numbers of a header and of a field, in their order. Definitions only.
 use Prim.Native.Nat.{ℕ, _+_, _-_, _*_}
 use mathlib.Core.List.{List, [], _∷_}
-use Rattle.words.specs.Numbers.{byte}
 use Rattle.header.specs.Refusals.{badArgument}
+use Rattle.header.specs.Fields.{codeAt}
 use Rattle.header.specs.Numbers.{numbersOf, fieldOf}
 use Rattle.header.specs.Names.{nameIn}
 use Rattle.header.specs.declared.Header.{Header}
@@ -68,11 +68,11 @@ fieldGiven lent code (Fie.Is kind width offset) name = namedField lent code kind
 fieldGiven lent code Fie.Missing name = cleared lent badArgument
 
 -- the type code that is stored for field f, counted from 1
-abbrev pub codeAt : List ℕ → Header → ℕ → ℕ
-codeAt t h f = byte t (h .area + 2 * (f - 1))
+abbrev pub storedCode : List ℕ → Header → ℕ → ℕ
+storedCode t h f = codeAt t (h .area) (f - 1)
 
 abbrev pub fieldIn : List ℕ → List ℕ → Header → ℕ → ℕ × List ℕ
-fieldIn t lent h f = fieldGiven lent (codeAt t h f) (fieldOf t h f) (nameIn t h f)
+fieldIn t lent h f = fieldGiven lent (storedCode t h f) (fieldOf t h f) (nameIn t h f)
 
 unfoldable pub fieldNumbers : List ℕ → ℕ → List ℕ → ℕ × List ℕ
 fieldNumbers t f lent = roomFirst t lent fieldCount (fieldIn t lent (numbersOf t) f)

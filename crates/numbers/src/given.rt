@@ -56,8 +56,8 @@ fn date_given(value: u64, text: &[u8]) -> Value
     Value::Date(value as u32)
 }
 
-// The double of any 64 bits: without the sign, which is the top bit, a pattern above infinity's is a not-a-number's. All
-// of those are one.
+// The double of any 64 bits: without the sign, which is the top bit, a pattern above infinity's is a not-a-number's.
+// All of those are one.
 fn double_of(bits: u64) -> f64
     ensures { λ r. ⌜ r ≡ ofBits binary64 bits ⌝ }
 {

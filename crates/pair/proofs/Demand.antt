@@ -4,7 +4,6 @@ use Prim.Native.Nat.{ℕ, _≤_}
 use mathlib.Core.Path.{_≡_, refl, sym, ap, _∙_}
 use mathlib.Core.Bool.{Bool, true, false}
 use mathlib.Core.List.{List}
-use native.Mathlib.Omega.{arith}
 use lib.ListN.{length}
 use Rattle.header.specs.Numbers.{numbersOf}
 use Rattle.header.specs.declared.Header.{Header}
@@ -13,12 +12,10 @@ use Rattle.table.specs.Table.{tableAnswer}
 use Rattle.table.proofs.RuleLaws.{header-kept, table-gives, table-takes, accepted-table}
 use Rattle.lookup.specs.Found.{lookupOf}
 use Rattle.lookup.specs.Sought.{keyFits}
-use Rattle.lookup.specs.declared.found.Found.{Found}
-use Rattle.lookup.specs.declared.found.Found.the-variants.{At, Absent, Refused}
 use Rattle.lookup.proofs.KeyLaws.{fits-gives, fits-takes}
 use Rattle.scan.specs.Scan.{scanOf, scanLookup}
 use Rattle.scan.proofs.ScanLaws.{scan-unfit, scan-first}
-use Rattle.scan.proofs.KeyLaws.{scan-answers, absent-gives, absent-takes, found-gives, found-takes}
+use Rattle.scan.proofs.KeyLaws.{scan-finds}
 use Rattle.index.specs.Header.{indexOf}
 use Rattle.index.specs.Walk.{refusedWalk, walkTree, walkOf, walkKey, walkedNumbers, walkNumbers}
 use Rattle.index.specs.declared.walking.Walked.{Walked}
@@ -27,36 +24,6 @@ use Rattle.pair.specs.Pair.{pairAnswer}
 use Rattle.pair.specs.Rules.{Agreement, Agreeing}
 use Rattle.pair.proofs.PairLaws.{pair-parts}
 use Rattle.pair.proofs.AgreeLaws.{walk-agrees}
-
--- ---- the numbers of an answer that is no refusal
-
-module _ (r : Found) (answers : (n : ℕ) → r ≡ Refused n → ⊥) where
-  no-refusal : lookupOf r .refusal ≡ 0
-  unfolding lookupOf
-  no-refusal = go r refl
-    where
-      go : (f : Found) → r ≡ f → lookupOf f .refusal ≡ 0
-      go (At b p) e = refl
-      go Absent e = refl
-      go (Refused n) e = absurd (answers n e)
-
-  none-found : lookupOf r .found ≡ 0 → r ≡ Absent
-  unfolding lookupOf
-  none-found = go r refl
-    where
-      go : (f : Found) → r ≡ f → lookupOf f .found ≡ 0 → r ≡ Absent
-      go (At b p) e z = absurd (omega arith)
-      go Absent e z = e
-      go (Refused n) e z = absurd (answers n e)
-
-  one-found : lookupOf r .found ≡ 1 → r ≡ At (lookupOf r .block) (lookupOf r .place)
-  unfolding lookupOf
-  one-found = go r refl
-    where
-      go : (f : Found) → r ≡ f → lookupOf f .found ≡ 1 → r ≡ At (lookupOf f .block) (lookupOf f .place)
-      go (At b p) e z = e
-      go Absent e z = absurd (omega arith)
-      go (Refused n) e z = absurd (omega arith)
 
 -- ---- an accepted pair, a table that the scan accepts with its own mark buffer, and a key of the key length
 
@@ -81,30 +48,13 @@ module _ (t x key : List ℕ) (room room₂ : ℕ) (e : pairAnswer t x room ≡ 
       (pair-parts t x room e .1) size (pair-parts t x room e .3))
       ∙ sym (scan-first t key room₂ table fits)
 
-  -- the scan is no refusal
-  answers : (n : ℕ) → scanOf t key room₂ ≡ Refused n → ⊥
-  answers = scan-answers t key room₂ table fits
-
   -- so their numbers are the same, and say what the scan says of the records
   agreement : Agreement t (numbersOf t) key (walkNumbers t x key .0) (scanLookup t key room₂)
-  unfolding walkNumbers walkedNumbers scanLookup lookupOf
+  unfolding walkNumbers walkedNumbers scanLookup
   agreement =
       record {
         same = ap lookupOf walk-scans;
-        accepted = no-refusal (scanOf t key room₂) answers;
-        absent-gives = λ z. absent-gives t key room₂ table fits (none-found (scanOf t key room₂) answers z);
-        absent-takes = λ none. ap (λ (r : Found). lookupOf r .found) (absent-takes t key room₂ table fits none);
-        found-gives =
-            λ z. found-gives t key room₂ table fits
-            (record { block = lookupOf (scanOf t key room₂) .block; place = lookupOf (scanOf t key room₂) .place })
-            (one-found (scanOf t key room₂) answers z);
-        found-takes =
-            λ p k. let r = found-takes t key room₂ table fits p
-            k in (
-              ap (λ (f : Found). lookupOf f .found) r,
-              ap (λ (f : Found). lookupOf f .block) r,
-              ap (λ (f : Found). lookupOf f .place) r,
-            );
+        finds = scan-finds t key room₂ table (pair-parts t x room e .1) size;
       }
 
 -- a key of another length is 13 both ways; so for every key they find the same

@@ -28,7 +28,7 @@ use Rattle.pair.proofs.FitLaws.{fitting, under}
 use Rattle.pair.proofs.HoldingLaws.{keys-ended, keys-next}
 
 -- one part of a tree after another
-abbrev andThen : Fit → (ℕ → Fit) → Fit
+abbrev pub andThen : Fit → (ℕ → Fit) → Fit
 andThen (Next c) f = f c
 andThen Unfit f = Unfit
 
@@ -154,7 +154,7 @@ module _ (t x : List ℕ) (s : Shapes) where
   unfolding each joined follow
   upTo-none level b c = refl
 
-  upTo-suc : (level b i c : ℕ) →
+  pub upTo-suc : (level b i c : ℕ) →
       upTo level b (suc i) c ≡ andThen (upTo level b i c) (entryFrom t x s level (entryAt x gx n b i))
   unfolding each joined entryFrom
   upTo-suc level b i c =
@@ -173,7 +173,7 @@ module _ (t x : List ℕ) (s : Shapes) where
       go false q us vs = refl
 
   -- once some entries do not fit, they and more do not
-  upTo-stays : (level b i c : ℕ) → upTo level b i c ≡ Unfit → (d : ℕ) → upTo level b (i + d) c ≡ Unfit
+  pub upTo-stays : (level b i c : ℕ) → upTo level b i c ≡ Unfit → (d : ℕ) → upTo level b (i + d) c ≡ Unfit
   upTo-stays level b i c h zero = let e : i + 0 ≡ i = omega arith in rw e h
   upTo-stays level b i c h (suc d) =
       let e : i + suc d ≡ suc (i + d) = omega arith in
@@ -181,7 +181,7 @@ module _ (t x : List ℕ) (s : Shapes) where
       (upTo-stays level b i c h d))
 
   -- the chain stays good
-  upTo-good : (level b i c d : ℕ) → GoodFrom t g c → upTo level b i c ≡ Next d → GoodFrom t g d
+  pub upTo-good : (level b i c d : ℕ) → GoodFrom t g c → upTo level b i c ≡ Next d → GoodFrom t g d
   upTo-good level b i c d good e = go (each (fitting x gx n level b) i) e
     where
       go : (p : Bool) → cond p (follow t g n (joined (under x gx n level b) i) c) Unfit ≡ Next d → GoodFrom t g d
@@ -240,6 +240,18 @@ module _ (t x : List ℕ) (s : Shapes) where
       go zero f = let o : _≡_ {A = ℕ} 0 1 = cc in absurd (omega arith)
       go (suc m) f = omega arith
 
+  -- and all of them fit
+  pub block-all : (level b c d : ℕ) → blockFrom t x s (suc level) b c ≡ Next d →
+      upTo level b (entriesIn x gx b) c ≡ Next d
+  block-all level b c d e =
+      let k : suc level - 1 ≡ level = omega arith in
+      go (eqb (entriesIn x gx b) 0) (sym (block-by (suc level) b c (omega arith)) ∙ e) k
+    where
+      go : (p : Bool) → cond p Unfit (upTo (suc level - 1) b (entriesIn x gx b) c) ≡ Next d → suc level - 1 ≡ level →
+          upTo level b (entriesIn x gx b) c ≡ Next d
+      go true f k = let o : _≡_ {A = ℕ} 0 1 = cc in absurd (omega arith)
+      go false f k = rw k at f
+
   -- ---- an entry
 
   -- an entry as the index has it, by where it stands and the block that it names
@@ -285,6 +297,15 @@ module _ (t x : List ℕ) (s : Shapes) where
     pub entry-fits : (d : ℕ) → blockFrom t x s level (e .block) c ≡ Next d →
         isSame (order (e .key) (entryKey x gx n (e .block) 0)) ≡ true → entryFrom t x s level e c ≡ Next d
     entry-fits d u k = entry-by level e c l ∙ rw (k, u)
+
+    -- the block of an entry that fits does too
+    pub entry-block : (d : ℕ) → entryFrom t x s level e c ≡ Next d → blockFrom t x s level (e .block) c ≡ Next d
+    entry-block d f = go (isSame (order (e .key) (entryKey x gx n (e .block) 0))) (sym (entry-by level e c l) ∙ f)
+      where
+        go : (p : Bool) → cond p (blockFrom t x s level (e .block) c) Unfit ≡ Next d →
+            blockFrom t x s level (e .block) c ≡ Next d
+        go true u = u
+        go false u = let o : _≡_ {A = ℕ} 0 1 = cc in absurd (omega arith)
 
   -- ---- the whole tree
 

@@ -9,3 +9,5 @@ pub mod Demand
 pub mod HoldingLaws
 pub mod FollowLaws
 pub mod TreeLaws
+pub mod RefusalLaws
+pub mod LookedLaws

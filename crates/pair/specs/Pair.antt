@@ -1,7 +1,7 @@
 -- The pair check: the table check, 13, 21 to 26, then 27; and a key looked up in a pair. Definitions only.
 use Prim.Native.Nat.{ℕ}
 use mathlib.Core.Bool.{Bool, cond, _&&_}
-use mathlib.Core.List.{List}
+use mathlib.Core.List.{List, [], _∷_, _++_}
 use lib.Dec.{eqb, leb}
 use lib.ListN.{length}
 use Rattle.header.specs.Refusals.{badArgument, indexTree, firstBroken}
@@ -11,8 +11,8 @@ use Rattle.header.specs.declared.Header.{Header}
 use Rattle.blocks.specs.Shape.{shapeOf}
 use Rattle.chain.specs.Links.{usedOf}
 use Rattle.table.specs.Records.{recordsOf}
-use Rattle.table.specs.Table.{tableFirst, tableMarks}
-use Rattle.index.specs.Header.{indexOf}
+use Rattle.table.specs.Table.{tableRefusals, tableFirst, tableMarks}
+use Rattle.index.specs.Header.{indexRefusals, indexOf}
 use Rattle.index.specs.Walk.{refusedWalk, walkOf}
 use Rattle.index.specs.declared.IndexHeader.{IndexHeader}
 use Rattle.index.specs.declared.walking.Walked.{Walked}
@@ -46,6 +46,10 @@ keyedAnswer t h x = firstBroken (leb 1 (h .«key_fields»)) badArgument (treeAns
 unfoldable pub pairAnswer : List ℕ → List ℕ → ℕ → ℕ
 pairAnswer t x room = tableFirst t room (λ (number : ℕ). number) (keyedAnswer t (numbersOf t) x)
 
+-- its refusals: the table check's, 13, those of the index's header, then 27
+unfoldable pub pairRefusals : List ℕ
+pairRefusals = tableRefusals ++ (badArgument ∷ indexRefusals ++ indexTree ∷ [])
+
 -- what it leaves in the mark buffer: what the table check does, also where 13 or 21 to 27 is the answer
 abbrev pub pairMarks : List ℕ → List ℕ → List ℕ
 pairMarks t m = tableMarks t m
@@ -54,3 +58,7 @@ pairMarks t m = tableMarks t m
 -- Where the pair is accepted the scan finds the same (`Agreeing`)
 unfoldable pub lookUpOf : List ℕ → List ℕ → List ℕ → List ℕ → Walked
 lookUpOf t x key m = unlessRefused (pairAnswer t x (length m)) refusedWalk (walkOf t x key)
+
+-- its refusals: the pair check's, then 13 for a key of another length
+unfoldable pub lookUpRefusals : List ℕ
+lookUpRefusals = pairRefusals ++ badArgument ∷ []

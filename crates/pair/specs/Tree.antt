@@ -51,9 +51,13 @@ leaves x g n zero e = e ∷ []
 leaves x g n (suc level) e =
     joined (λ (i : ℕ). leaves x g n level (entryAt x g n (e .block) i)) (entriesIn x g (e .block))
 
--- those of a tree: its root is named by no entry and so by no key
+-- the root as an entry: none names it, and so it has no key
+abbrev pub rootEntry : ℕ → Entry
+rootEntry root = record { key = []; block = root }
+
+-- the level 1 entries of a tree
 abbrev pub treeLeaves : List ℕ → Shape → ℕ → ℕ → ℕ → List Entry
-treeLeaves x g n levels root = leaves x g n levels (record { key = []; block = root })
+treeLeaves x g n levels root = leaves x g n levels (rootEntry root)
 
 -- a data block with its first key
 abbrev pub firstEntry : List ℕ → Shape → ℕ → ℕ → Entry

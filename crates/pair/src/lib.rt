@@ -54,8 +54,9 @@ fn tree_fits(table: &[u8], h: Header, index: &[u8], i: IndexHeader) -> bool
         key_length: h.key_length,
     };
     let root = i.root as usize;
-    let Fit::Next(rest) = tree::block_fits(table, index, shapes, i.levels, root, h.first as usize)
-    else {
+    let read = tree::block_fits(table, index, shapes, i.levels, root, h.first as usize);
+    let fit = read.fit;
+    let Fit::Next(rest) = fit else {
         return false;
     };
     tree::first_holding(table, table_shape, rest) == 0

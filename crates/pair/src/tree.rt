@@ -1,11 +1,13 @@
 // The tree of an index against the used chain of its table. It is read once, left to right, and given up at the first
-// fault: a block or entry that does not fit, or a level 1 entry that is not the next one expected.
+// fault: a block or entry that does not fit, or a level 1 entry that is not the next one expected. The entries looked
+// at are counted: at each level they are no more than the used blocks that hold records, and one.
 // The module is private: its functions are helpers of the pair check, which meets what they require.
 ghost use mathlib.Core.Path.{_≡_};
 ghost use Prim.Native.Nat.{_+_, _<_, _≤_};
 ghost use lib.ListN.{length};
 ghost use Rattle.index.specs.Entries.{entriesIn};
 ghost use Rattle.pair.specs.Steps.{Descendable, Followed, blockFrom, entryFromAt, holdingFrom, leafFrom};
+ghost use Rattle.pair.specs.Looked.{blockLooked, entryLookedAt};
 use blocks::Count;
 use blocks::Shape;
 use chain::next_of;
@@ -21,6 +23,12 @@ pub struct Shapes {
 pub enum Fit {
     Next(usize),
     Unfit,
+}
+
+// What reading a part of the tree came to, and how many entries were looked at.
+pub struct Looked {
+    pub fit: Fit,
+    pub entries: u32,
 }
 
 // The first block that holds records from a number of the used chain on; 0 where there is none.
@@ -76,24 +84,35 @@ pub fn block_fits(
     level: u8,
     block: usize,
     from: usize,
-) -> Fit
+) -> Looked
     requires { ⌜ Descendable (now table) (now index) shapes from × (1 ≤ level) ⌝ }
-    ensures { λ r. ⌜ r ≡ blockFrom (now (table .entry)) (now (index .entry)) shapes level block from ⌝ }
+    ensures { λ r. ⌜ r .fit ≡ blockFrom (now (table .entry)) (now (index .entry)) shapes level block from ⌝ }
+    ensures { λ r. ⌜ r .entries ≡ blockLooked (now (table .entry)) (now (index .entry)) shapes level block from ⌝ }
 {
     let count = index::entries_in(index, shapes.index, block);
+    let mut entries: u32 = 0;
     if count == 0 {
-        return Fit::Unfit;
+        return Looked {
+            fit: Fit::Unfit,
+            entries,
+        };
     }
     let mut reached = from;
     let mut i: u16 = 0;
     while i < count {
-        let Fit::Next(next) = entry_fits(table, index, shapes, level - 1, block, i, reached) else {
-            return Fit::Unfit;
+        let read = entry_fits(table, index, shapes, level - 1, block, i, reached);
+        entries += read.entries;
+        let fit = read.fit;
+        let Fit::Next(next) = fit else {
+            return Looked { fit, entries };
         };
         reached = next;
         i += 1;
     }
-    Fit::Next(reached)
+    Looked {
+        fit: Fit::Next(reached),
+        entries,
+    }
 }
 
 // An entry of an index block, whose own block is at a level: that block fits, and above level 1 the entry has the key
@@ -106,22 +125,33 @@ fn entry_fits(
     block: usize,
     i: u16,
     from: usize,
-) -> Fit
+) -> Looked
     requires { ⌜ Descendable (now table) (now index) shapes from × (i < entriesIn (now index) (shapes .index) block) ⌝ }
-    ensures { λ r. ⌜ r ≡ entryFromAt (now (table .entry)) (now (index .entry)) shapes level block i from ⌝ }
+    ensures { λ r. ⌜ r .fit ≡ entryFromAt (now (table .entry)) (now (index .entry)) shapes level block i from ⌝ }
+    ensures { λ r. ⌜ r .entries ≡ entryLookedAt (now (table .entry)) (now (index .entry)) shapes level block i from ⌝ }
 {
     let key = shapes.key_length as usize;
     let at = blocks::record_at(shapes.index, block, i as usize);
     let named = index::block_named(index, at + key) as usize;
     if level == 0 {
-        return leaf_fits(table, index, shapes, at, named, from);
+        let fit = leaf_fits(table, index, shapes, at, named, from);
+        return Looked { fit, entries: 1 };
     }
-    let Fit::Next(next) = block_fits(table, index, shapes, level, named, from) else {
-        return Fit::Unfit;
+    let read = block_fits(table, index, shapes, level, named, from);
+    let entries = read.entries + 1;
+    let fit = read.fit;
+    let Fit::Next(next) = fit else {
+        return Looked { fit, entries };
     };
     let first = blocks::record_at(shapes.index, named, 0);
     if !words::compare(index, at, index, first, key).is_same() {
-        return Fit::Unfit;
+        return Looked {
+            fit: Fit::Unfit,
+            entries,
+        };
     }
-    Fit::Next(next)
+    Looked {
+        fit: Fit::Next(next),
+        entries,
+    }
 }

@@ -37,6 +37,6 @@ module _ (t x key : List ℕ) (room room₂ : ℕ) (pair : pairAnswer t x room �
       let a = demand-3 t x key room room₂ pair marks size in
       let same = ap (λ (l : Lookup). packed l (walkNumbers t x key .1)) (a .same) in (
         same ∙ reads-added (scanLookup t key room₂) (walkNumbers t x key .1),
-        ap refusalIn same ∙ no-refusal (scanLookup t key room₂) (walkNumbers t x key .1) (a .accepted),
-        no-refusal (scanLookup t key room₂) 0 (a .accepted),
+        ap refusalIn same ∙ no-refusal (scanLookup t key room₂) (walkNumbers t x key .1) (a .finds .accepted),
+        no-refusal (scanLookup t key room₂) 0 (a .finds .accepted),
       )

@@ -1,2 +1,3 @@
 pub mod PackingLaws
 pub mod Demand
+pub mod RefusalLaws

@@ -1,5 +1,5 @@
--- The scan of an accepted table is absent exactly when no record has the key, and what it finds is the only record
--- that has it. Assumes nothing.
+-- The scan of an accepted table with key fields is absent exactly when no record has the key, and what it finds is the
+-- only record that has it; a refused one hands out no place. Assumes nothing.
 use Prim.Native.Nat.{ℕ, _≤_}
 use mathlib.Core.Path.{_≡_, refl, sym, ap, subst, _∙_}
 use mathlib.Core.Bool.{Bool, true, false}
@@ -18,11 +18,13 @@ use Rattle.table.specs.Table.{tableAnswer}
 use Rattle.table.proofs.RuleLaws.{accepted-table}
 use Rattle.table.proofs.UniqueLaws.{any-default, key-once}
 use Rattle.lookup.specs.Sought.{keyFits, firstWith}
-use Rattle.lookup.specs.Rules.{HasKey}
+use Rattle.lookup.specs.Found.{lookupOf}
+use Rattle.lookup.specs.Rules.{HasKey, Finds, NoPlace}
 use Rattle.lookup.specs.declared.found.Found.{Found}
 use Rattle.lookup.specs.declared.found.Found.the-variants.{At, Absent, Refused}
-use Rattle.lookup.proofs.KeyLaws.{fits-gives, Looked, finds, misses, looked, first-answers}
-use Rattle.scan.specs.Scan.{scanOf}
+use Rattle.lookup.proofs.FoundLaws.{refused-no-place, no-refusal, number-absent, number-found}
+use Rattle.lookup.proofs.KeyLaws.{fits-gives, fits-takes, Looked, finds, misses, looked, first-answers}
+use Rattle.scan.specs.Scan.{scanOf, scanLookup}
 use Rattle.scan.proofs.ScanLaws.{scan-refused, scan-unfit, scan-first}
 
 -- ---- a refused scan has a number, so absent is told from it by the numbers too
@@ -47,7 +49,7 @@ refused-number t key room n r = by-table (eqb (tableAnswer t room) 0) refl
           same (tableAnswer t room) (scan-refused t key room ne),
         )
 
--- ---- the scan of an accepted table, for a key of its key length
+-- ---- the scan of an accepted table with key fields, for a key of its key length
 
 module _ (t key : List ℕ) (room : ℕ) (e : tableAnswer t room ≡ 0) (f : keyFits (numbersOf t) key ≡ true) where
   abbrev h : Header
@@ -130,3 +132,33 @@ module _ (t key : List ℕ) (room : ℕ) (e : tableAnswer t room ≡ 0) (f : key
       go : Scanned (scanOf t key room) → scanOf t key room ≡ At (p .block) (p .place)
       go (record-found q k at) = at ∙ rw (one-record q p k l)
       go (none-found none at) = absurd (none p l)
+
+-- ---- the same by the scan's numbers
+
+pub scan-finds : (t key : List ℕ) (room : ℕ) → tableAnswer t room ≡ 0 → 1 ≤ numbersOf t .«key_fields» →
+    length key ≡ numbersOf t .«key_length» → Finds t (numbersOf t) key (scanLookup t key room)
+unfolding scanLookup lookupOf
+scan-finds t key room e keyed size =
+    let r = scanOf t key room in
+    let f = fits-takes (numbersOf t) key keyed size in
+    let answers = scan-answers t key room e f in
+    record {
+      accepted = no-refusal r answers;
+      absent-gives = λ z. absent-gives t key room e f (number-absent r answers z);
+      absent-takes = λ none. ap (λ (a : Found). lookupOf a .found) (absent-takes t key room e f none);
+      found-gives =
+          λ z. found-gives t key room e f (record { block = lookupOf r .block; place = lookupOf r .place })
+          (number-found r answers z);
+      found-takes =
+          λ p k. let at = found-takes t key room e f p k in (
+            ap (λ (a : Found). lookupOf a .found) at,
+            ap (λ (a : Found). lookupOf a .block) at,
+            ap (λ (a : Found). lookupOf a .place) at,
+          );
+    }
+
+-- a refused scan hands out no place
+pub scan-no-place : (t key : List ℕ) (room : ℕ) → (scanLookup t key room .refusal ≡ 0 → ⊥) →
+    NoPlace (scanLookup t key room)
+unfolding scanLookup
+scan-no-place t key room = refused-no-place (scanOf t key room)

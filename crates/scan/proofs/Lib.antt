@@ -1,3 +1,4 @@
 pub mod ChainLaws
 pub mod ScanLaws
 pub mod KeyLaws
+pub mod RefusalLaws

@@ -2,6 +2,7 @@ pub mod GoodChainLaws
 pub mod KeyLaws
 pub mod TallyLaws
 pub mod RecordLaws
+pub mod HeldLaws
 pub mod UsedLaws
 pub mod ChainsLaws
 pub mod CheckLaws
@@ -9,3 +10,5 @@ pub mod OnceLaws
 pub mod RuleLaws
 pub mod UniqueLaws
 pub mod BufferLaws
+pub mod SameLaws
+pub mod RefusalLaws

@@ -1,8 +1,8 @@
--- The records of some blocks: how many, where each is; and the rules of counts and keys, test and proposition.
+-- The records of some blocks: how many, where each is; good counts; and the key rule, test and proposition.
 -- Assumes nothing.
 use Prim.Native.Nat.{ℕ, zero, suc, _+_, _-_, _≤_, _<_}
 use mathlib.Core.Path.{_≡_, refl, sym, ap, _∙_}
-use mathlib.Core.Bool.{Bool, true, false≢true}
+use mathlib.Core.Bool.{true, false≢true}
 use mathlib.Core.List.{List, [], _∷_, _++_, append-assoc}
 use mathlib.Core.Logic.{⊎-elim}
 use native.Mathlib.Nat.{not-suc-le-zero, eq-or-lt-of-le, add-zero, zero-add}
@@ -18,7 +18,7 @@ use Rattle.blocks.specs.Counts.{countIn}
 use Rattle.blocks.specs.declared.Shape.{Shape}
 use Rattle.blocks.specs.declared.count.Count.{Count}
 use Rattle.blocks.specs.declared.count.Count.the-variants.{Records, Bad}
-use Rattle.chain.proofs.ListLaws.{every-gives, every-takes}
+use Rattle.chain.proofs.ListLaws.{every-gives}
 use Rattle.table.specs.Records.{Position, held, placesFrom, recordsIn}
 use Rattle.table.specs.Counts.{isGood, countsGood, total}
 use Rattle.table.specs.Keys.{ascendFrom, ascend}
@@ -54,27 +54,17 @@ good-not-bad : (c : Count) → isGood c ≡ true → c ≡ Bad → ⊥
 unfolding isGood
 good-not-bad c e f = false≢true (rw f at e)
 
-pub not-bad-good : (c : Count) → (c ≡ Bad → ⊥) → isGood c ≡ true
-unfolding isGood
-not-bad-good (Records n) h = refl
-not-bad-good Bad h = absurd (h refl)
-
 -- a good count is one of records
 pub good-count : (c : Count) → isGood c ≡ true → c ≡ Records (held c)
 unfolding isGood held
 good-count (Records n) e = refl
 good-count Bad e = absurd (false≢true e)
 
--- every count is good exactly when none is bad
-module _ (t : List ℕ) (g : Shape) (bs : List ℕ) where
-  abbrev good : ℕ → Bool
-  good b = isGood (countIn t g b)
-
-  pub counts-give : countsGood t g bs ≡ true → (i : ℕ) → i < length bs → countIn t g (getD bs i 0) ≡ Bad → ⊥
-  counts-give e i l = good-not-bad (countIn t g (getD bs i 0)) (every-gives good bs e i l)
-
-  pub counts-take : ((i : ℕ) → i < length bs → countIn t g (getD bs i 0) ≡ Bad → ⊥) → countsGood t g bs ≡ true
-  counts-take h = every-takes good bs (λ i l. not-bad-good (countIn t g (getD bs i 0)) (h i l))
+-- where every count is good, none is bad
+pub counts-give : (t : List ℕ) (g : Shape) (bs : List ℕ) → countsGood t g bs ≡ true → (i : ℕ) → i < length bs →
+    countIn t g (getD bs i 0) ≡ Bad → ⊥
+counts-give t g bs e i l =
+    good-not-bad (countIn t g (getD bs i 0)) (every-gives (λ (b : ℕ). isGood (countIn t g b)) bs e i l)
 
 -- ---- keys
 

@@ -1,30 +1,34 @@
 -- Demand 2 for tables: with a mark for each block the answer is 0 exactly when `TableRules` holds; and what an
 -- accepted table gives. Assumes nothing.
 use Prim.Native.Nat.{ℕ, _≤_}
-use mathlib.Core.Path.{_≡_, refl, _∙_}
+use mathlib.Core.Path.{_≡_, refl, sym, ap, _∙_}
 use mathlib.Core.Bool.{Bool, true, false, cond}
 use mathlib.Core.List.{List}
 use native.Mathlib.Omega.{arith}
 use lib.Dec.{eqb, leb}
+use lib.ListN.{length-map}
 use borrow.Author.Tests.{eq-eqb, eqb-true, le-leb, leb-true}
 use Rattle.words.proofs.Conjunctions.{both, join}
 use Rattle.header.specs.Header.{mostRecords, headerRefusal}
-use Rattle.header.specs.Numbers.{numbersOf}
+use Rattle.header.specs.Numbers.{numbersWith, numbersIn, numbersOf}
 use Rattle.header.specs.Answers.{headerFirst}
 use Rattle.header.specs.Rules.{Accepted}
 use Rattle.header.specs.declared.Header.{Header}
 use Rattle.header.proofs.AcceptedLaws.{accepted, accepted-gives, accepted-takes}
 use Rattle.header.proofs.VerdictLaws.{unless-kept, unless-zero, kept-of}
 use Rattle.blocks.specs.Shape.{shapeOf}
+use Rattle.blocks.specs.Counts.{countIn}
 use Rattle.chain.specs.Links.{linksOf, usedOf, freeOf}
 use Rattle.chain.specs.Rules.{ChainRules}
 use Rattle.chain.proofs.RuleLaws.{rules-give, rules-take, rules-length, rules-once, used-is}
-use Rattle.table.specs.Counts.{countsGood, total, countsRight, sumFits}
+use Rattle.table.specs.Records.{held, recordsHeld, recordsIn}
+use Rattle.table.specs.Counts.{countsGood, sum, total, countsRight, sumFits}
 use Rattle.table.specs.Keys.{keysOf, ascend, keysAscend}
 use Rattle.table.specs.Table.{tableChained, recordsAnswer, rulesAnswer, blocksAnswer, tableAnswer}
 use Rattle.table.specs.Rules.{Ascending, TableRules, AcceptedTable}
-use Rattle.table.proofs.RecordLaws.{records-total, counts-give, counts-take, ascend-gives, ascend-takes}
-use Rattle.table.proofs.RecordLaws.{ascending-pairs}
+use Rattle.table.proofs.RecordLaws.{records-total, counts-give, ascend-gives, ascend-takes, ascending-pairs}
+use Rattle.table.proofs.HeldLaws.{countsOf, sum-counts, held-records, holding-gives, holding-good}
+use Rattle.table.proofs.HeldLaws.{holding-counts}
 
 -- ---- the answer is 0 exactly when every test holds
 
@@ -80,6 +84,19 @@ keys-take t h k = go (leb 1 (h .«key_fields»)) refl
     go true e = ascend-takes (keysOf t h) (k (leb-true 1 (h .«key_fields») e))
     go false e = refl
 
+-- the used blocks of the rules are those of the chain, and their counts are what each block's gives
+module _ {t : List ℕ} (r : TableRules t) where
+  pub rules-used : usedOf t (numbersOf t) ≡ r .used
+  rules-used = used-is (numbersOf t .blocks) (linksOf t (numbersOf t)) (r .used) (r .free) (r .chains)
+
+  record-some : 1 ≤ shapeOf (numbersOf t) .«record_size»
+  unfolding shapeOf numbersOf numbersIn numbersWith
+  record-some = r .header .limits .size-least
+
+  pub rules-counts : r .counts ≡ countsOf t (shapeOf (numbersOf t)) (r .used)
+  rules-counts =
+      holding-counts t (shapeOf (numbersOf t)) record-some (r .used) (r .counts) (r .counts-length) (r .holding)
+
 module _ (t : List ℕ) (room : ℕ) where
   -- an accepted table meets the rules
   pub table-gives : tableAnswer t room ≡ 0 → TableRules t
@@ -95,10 +112,15 @@ module _ (t : List ℕ) (room : ℕ) where
         used = usedOf t h;
         free = freeOf t h;
         chains = rules-give (h .blocks) (linksOf t h) (k .chains);
-        counts = counts-give t (shapeOf h) (usedOf t h) (c .0);
-        sum = eqb-true (total t (shapeOf h) (usedOf t h)) (h .records) (c .1);
-        few = leb-true (total t (shapeOf h) (usedOf t h)) mostRecords (k .few);
-        keys = keys-give t h (k .keys);
+        counts = countsOf t (shapeOf h) (usedOf t h);
+        counts-length = length-map (usedOf t h) (λ (b : ℕ). held (countIn t (shapeOf h) b));
+        holding = holding-gives t (shapeOf h) (usedOf t h) (c .0);
+        counts-sum =
+            sum-counts t (shapeOf h) (usedOf t h) ∙ eqb-true (total t (shapeOf h) (usedOf t h)) (h .records) (c .1);
+        few =
+            rw (sum-counts t (shapeOf h) (usedOf t h))
+            (leb-true (total t (shapeOf h) (usedOf t h)) mostRecords (k .few));
+        keys = λ l. rw (held-records t (shapeOf h) (usedOf t h)) (keys-give t h (k .keys) l);
       }
 
   -- a table that meets the rules is accepted, where the mark buffer has a byte for each block
@@ -107,17 +129,26 @@ module _ (t : List ℕ) (room : ℕ) where
   table-takes r l =
       let h = numbersOf t in
       let z = accepted-takes t (r .header) in
-      let u : usedOf t h ≡ r .used = used-is (h .blocks) (linksOf t h) (r .used) (r .free) (r .chains) in
+      let u : usedOf t h ≡ r .used = rules-used r in
+      let c : r .counts ≡ countsOf t (shapeOf h) (r .used) = rules-counts r in
+      let s : total t (shapeOf h) (r .used) ≡ sum (r .counts) = sym (ap sum c ∙ sum-counts t (shapeOf h) (r .used)) in
+      let p : recordsHeld (r .used) (r .counts) ≡ recordsIn t (shapeOf h) (r .used) =
+      ap (recordsHeld (r .used)) c ∙ held-records t (shapeOf h) (r .used) in
       let k : Kept t h = record {
         chains = rules-take (h .blocks) (linksOf t h) (r .used) (r .free) (r .chains);
         counts =
-            rw u (join (counts-take t (shapeOf h) (r .used) (r .counts))
-            (eq-eqb (total t (shapeOf h) (r .used)) (h .records) (r .sum)));
-        few = rw u (le-leb (total t (shapeOf h) (r .used)) mostRecords (r .few));
-        keys = keys-take t h (λ y. rw u (r .keys y));
+            rw u (join (holding-good t (shapeOf h) (record-some r) (r .used) (r .counts) (r .holding))
+            (eq-eqb (total t (shapeOf h) (r .used)) (h .records) (s ∙ r .counts-sum)));
+        few = rw (u, s) (le-leb (sum (r .counts)) mostRecords (r .few));
+        keys = keys-take t h (λ y. rw (u, ← p) (r .keys y));
       } in
       unless-kept (headerRefusal t) (λ (n : ℕ). n) (blocksAnswer t h room) z
       ∙ rw (le-leb (h .blocks) room l) (records-take t h k)
+
+-- with a mark for each block a table is accepted exactly when it meets the rules
+pub table-exactly : (t : List ℕ) (room : ℕ) → numbersOf t .blocks ≤ room →
+    (tableAnswer t room ≡ 0 → TableRules t) × (TableRules t → tableAnswer t room ≡ 0)
+table-exactly t room l = (table-gives t room, λ r. table-takes t room r l)
 
 -- ---- what an accepted table gives
 

@@ -22,6 +22,11 @@ isGood Bad = false
 abbrev pub countsGood : List ℕ → Shape → List ℕ → Bool
 countsGood t g bs = every (λ (b : ℕ). isGood (countIn t g b)) bs
 
+-- numbers added up
+unfoldable pub sum : List ℕ → ℕ
+sum [] = 0
+sum (n ∷ ns) = n + sum ns
+
 -- the counts of some blocks added up
 unfoldable pub total : List ℕ → Shape → List ℕ → ℕ
 total t g [] = 0

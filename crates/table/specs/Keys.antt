@@ -14,9 +14,13 @@ use Rattle.table.specs.Records.{Position, recordsIn}
 abbrev pub keyAt : List ℕ → Shape → ℕ → Position → List ℕ
 keyAt t g n p = range t (recordAt g (p .block) (p .place)) n
 
+-- the keys of some records
+abbrev pub keysAt : List ℕ → Shape → ℕ → List Position → List (List ℕ)
+keysAt t g n ps = map (keyAt t g n) ps
+
 -- the keys of the records of some blocks, block by block
 abbrev pub keysIn : List ℕ → Shape → ℕ → List ℕ → List (List ℕ)
-keysIn t g n bs = map (keyAt t g n) (recordsIn t g bs)
+keysIn t g n bs = keysAt t g n (recordsIn t g bs)
 
 -- the keys of a table's records, in chain order
 abbrev pub keysOf : List ℕ → Header → List (List ℕ)

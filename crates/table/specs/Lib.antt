@@ -4,3 +4,4 @@ pub mod Keys
 pub mod Table
 pub mod Rules
 pub mod Steps
+pub mod Same

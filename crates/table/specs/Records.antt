@@ -26,7 +26,13 @@ unfoldable pub placesFrom : ℕ → ℕ → ℕ → List Position
 placesFrom b place zero = []
 placesFrom b place (suc n) = record { block = b; place = place } ∷ placesFrom b (suc place) n
 
--- the records of some blocks, block by block
+-- the records of some blocks that hold so many each, block by block
+unfoldable pub recordsHeld : List ℕ → List ℕ → List Position
+recordsHeld [] counts = []
+recordsHeld (b ∷ bs) [] = []
+recordsHeld (b ∷ bs) (n ∷ counts) = placesFrom b 0 n ++ recordsHeld bs counts
+
+-- the records of some blocks by their counts, block by block
 unfoldable pub recordsIn : List ℕ → Shape → List ℕ → List Position
 recordsIn t g [] = []
 recordsIn t g (b ∷ bs) = placesFrom b 0 (held (countIn t g b)) ++ recordsIn t g bs

@@ -12,15 +12,16 @@ use Rattle.header.specs.Rules.{HeaderRules, Accepted}
 use Rattle.header.specs.declared.Header.{Header}
 use Rattle.blocks.specs.Shape.{shapeOf}
 use Rattle.blocks.specs.Counts.{countIn}
+use Rattle.blocks.specs.Rules.{Holds}
 use Rattle.blocks.specs.declared.Shape.{Shape}
 use Rattle.blocks.specs.declared.count.Count.the-variants.{Bad}
 use Rattle.chain.specs.Chain.{times}
 use Rattle.chain.specs.Links.{nextOf, linksOf, usedOf}
 use Rattle.chain.specs.Marks.{unmarked, marksOf}
 use Rattle.chain.specs.Rules.{Chain, Inside, ChainRules}
-use Rattle.table.specs.Records.{Position, held, recordsOf}
-use Rattle.table.specs.Counts.{total}
-use Rattle.table.specs.Keys.{keysIn, keysOf}
+use Rattle.table.specs.Records.{Position, held, recordsHeld, recordsOf}
+use Rattle.table.specs.Counts.{sum, total}
+use Rattle.table.specs.Keys.{keysAt, keysOf}
 
 -- keys strictly ascend: each is less than the one after it
 abbrev pub Ascending : List (List ℕ) → Type 0
@@ -41,14 +42,16 @@ pub record TableRules (t : List ℕ) : Type 0 where
   pub used : List ℕ
   pub free : List ℕ
   pub chains : ChainRules (numbersOf t .blocks) (linksOf t (numbersOf t)) used free
-  -- 9: no used block's count is bad, and the counts add up to the header's
-  pub counts : (i : ℕ) → i < length used → countIn t (shapeOf (numbersOf t)) (getD used i 0) ≡ Bad → ⊥
-  pub sum : total t (shapeOf (numbersOf t)) used ≡ numbersOf t .records
+  -- 9: how many records each used block holds, by a count that is good; they add up to the header's
+  pub counts : List ℕ
+  pub counts-length : length counts ≡ length used
+  pub holding : (i : ℕ) → i < length used → Holds t (shapeOf (numbersOf t)) (getD used i 0) (getD counts i 0)
+  pub counts-sum : sum counts ≡ numbersOf t .records
   -- 16: they add up to at most 2,147,483,647
-  pub few : total t (shapeOf (numbersOf t)) used ≤ mostRecords
+  pub few : sum counts ≤ mostRecords
   -- 10: with key fields, the keys of all records in chain order strictly ascend
   pub keys : 1 ≤ numbersOf t .«key_fields» →
-      Ascending (keysIn t (shapeOf (numbersOf t)) (numbersOf t .«key_length») used)
+      Ascending (keysAt t (shapeOf (numbersOf t)) (numbersOf t .«key_length») (recordsHeld used counts))
 
 -- what an accepted table gives the crates above
 pub record AcceptedTable (t : List ℕ) (h : Header) : Type 0 where

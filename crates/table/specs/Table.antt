@@ -2,10 +2,11 @@
 -- Definitions only.
 use Prim.Native.Nat.{ℕ}
 use mathlib.Core.Bool.{Bool, cond}
-use mathlib.Core.List.{List, _++_}
+use mathlib.Core.List.{List, [], _∷_, _++_}
 use lib.Dec.{leb}
 use lib.ListN.{length, replicate, drop}
 use Rattle.header.specs.Refusals.{chainRule, wrongCount, keyOrder, shortBuffer, tooManyRecords, firstBroken}
+use Rattle.header.specs.Refusals.{headerRefusals}
 use Rattle.header.specs.Answers.{unlessRefused, headerFirst, refusedWith, acceptedWith}
 use Rattle.header.specs.Numbers.{numbersOf}
 use Rattle.header.specs.declared.Header.{Header}
@@ -37,9 +38,17 @@ rulesAnswer t h =
 unfoldable pub blocksAnswer : List ℕ → Header → ℕ → ℕ
 blocksAnswer t h room = firstBroken (leb (h .blocks) room) shortBuffer (rulesAnswer t h)
 
+-- the refusals behind 1 to 7: 14, 8, 9, 16, 10
+abbrev pub blocksRefusals : List ℕ
+blocksRefusals = shortBuffer ∷ chainRule ∷ wrongCount ∷ tooManyRecords ∷ keyOrder ∷ []
+
 -- what checking a table answers, for any bytes and a mark buffer of `room` bytes
 unfoldable pub tableAnswer : List ℕ → ℕ → ℕ
 tableAnswer t room = headerFirst t (λ (number : ℕ). number) (blocksAnswer t (numbersOf t) room)
+
+-- its refusals: 1 to 7, then those
+unfoldable pub tableRefusals : List ℕ
+tableRefusals = headerRefusals ++ blocksRefusals
 
 -- a call's answer behind the table check
 unfoldable pub tableFirst : {A : Type 0} → List ℕ → ℕ → (ℕ → A) → A → A

@@ -1,8 +1,9 @@
 -- Two numbers told apart; two branches that are the same, or have the same. Assumes nothing.
 use Prim.Native.Nat.{ℕ, _≤_, _<_}
-use mathlib.Core.Path.{_≡_, refl}
+use mathlib.Core.Path.{_≡_, refl, sym}
 use mathlib.Core.Bool.{Bool, true, false, cond}
-use mathlib.Core.Logic.{_⊎_, inl, inr}
+use mathlib.Core.Logic.{_⊎_, inl, inr, ⊎-elim}
+use native.Mathlib.Nat.{eq-or-lt-of-le}
 use native.Mathlib.Omega.{arith}
 use lib.Dec.{ltb}
 use borrow.Author.Tests.{ltb-true, ltb-false}
@@ -14,6 +15,11 @@ lt-or-ge n m = go (ltb n m) refl
     go : (t : Bool) → ltb n m ≡ t → (n < m) ⊎ (m ≤ n)
     go true e = inl (ltb-true n m e)
     go false e = inr (ltb-false n m e)
+
+-- what follows where a number is below another, the same and above it, follows
+pub compared : {X : Type 0} (n m : ℕ) → (n < m → X) → (n ≡ m → X) → (m < n → X) → X
+compared n m below same above =
+    ⊎-elim below (λ (l : m ≤ n). ⊎-elim (λ (e : m ≡ n). same (sym e)) above (eq-or-lt-of-le l)) (lt-or-ge n m)
 
 -- what follows where two numbers are the same that are not
 pub apart : {X : Type 0} → _≡_ {A = ℕ} 0 1 → X

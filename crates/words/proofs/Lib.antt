@@ -6,5 +6,7 @@ pub mod NumberLaws
 pub mod NumberOrder
 pub mod OrderLaws
 pub mod Ranges
+pub mod SameLaws
 pub mod SignedLaws
 pub mod ZeroLaws
+pub mod ReplaceLaws

@@ -21,6 +21,13 @@ little-lt s at (suc w) h =
     let m : 256 ^ w * byte s (at + w) ≤ 256 ^ w * 255 = mul-le-mul-left (256 ^ w) b in
     rw pow-suc (omega (arith, little-lt s at w h))
 
+-- the same bytes are the same number
+pub little-same : (s t : List ℕ) (at to w : ℕ) → ((i : ℕ) → i < w → byte s (at + i) ≡ byte t (to + i)) →
+    little s at w ≡ little t to w
+unfolding little
+little-same s t at to zero h = refl
+little-same s t at to (suc w) h = rw (little-same s t at to w (λ i l. h i (omega arith)), h w (omega arith))
+
 -- one byte more keeps a number below the next power
 pub grow : (w n b : ℕ) → n < 256 ^ w → b < 256 → n * 256 + b < 256 ^ suc w
 grow w n b h k = rw pow-suc (omega arith)

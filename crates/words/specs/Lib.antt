@@ -4,3 +4,4 @@ pub mod Order
 pub mod Signed
 pub mod Zeros
 pub mod Steps
+pub mod Replace

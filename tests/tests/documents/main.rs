@@ -1,8 +1,11 @@
-//! What the documents name is there, as they say it: names and their files, calls, refusals, crates.
+//! What the documents name is there, as they say it: names and their files, calls, refusals, crates; and each call has
+//! the refusals of its law.
 
+mod lists;
 mod names;
 mod sources;
 
+use lists::{numbers_in, numbers_of, rows, statement};
 use names::{files_in, names_of, Name};
 use sources::{crates, declaration, declares, head_of, read, root, source_of};
 use std::collections::BTreeSet;
@@ -12,6 +15,8 @@ const CRATES: &str = "docs/CRATES.md";
 const MANUAL: &str = "docs/MANUAL.md";
 const HEADER: &str = "include/paradox.h";
 const REFUSALS: &str = "crates/header/src/refusal.rt";
+/// Calls that hand out a part and no number.
+const PARTS: [&str; 4] = ["cell::text", "blob::read", "header::name", "listing::line"];
 
 /// Fails with all complaints at once.
 fn none(complaints: Vec<String>) {
@@ -106,16 +111,22 @@ fn refusals_have_one_name_and_number() {
     }
 }
 
-#[test]
-fn exports_are_declared_and_described() {
+fn exports() -> Vec<String> {
     let source = source_of("paradox");
     let exported = source
         .lines()
         .filter(|line| line.contains("extern \"C\" fn"));
-    let exports: Vec<&str> = exported.filter_map(declaration).collect();
+    let exports: Vec<String> = exported
+        .filter_map(|line| declaration(line).map(str::to_string))
+        .collect();
     assert!(!exports.is_empty());
+    exports
+}
+
+#[test]
+fn exports_are_declared_and_described() {
     let (header, manual) = (read(HEADER), read(MANUAL));
-    for name in exports {
+    for name in exports() {
         let start = format!(" {name}(");
         let mut prototypes = header.lines().filter(|line| line.starts_with("uint"));
         assert!(
@@ -124,6 +135,117 @@ fn exports_are_declared_and_described() {
         );
         assert!(manual.contains(&format!("`{name}`")), "{MANUAL}: {name}");
     }
+}
+
+#[test]
+fn every_call_has_its_refusals() {
+    let (document, guarantees) = (read(CRATES), read(GUARANTEES));
+    let calls = document.split("\n## Helpers\n").next().unwrap_or_default();
+    let mut expected: BTreeSet<String> = calls_in(calls)
+        .iter()
+        .map(|call| call.to_string())
+        .collect();
+    expected.retain(|call| !PARTS.contains(&call.as_str()));
+    expected.extend(exports());
+    let rows = rows(&guarantees);
+    let named: Vec<String> = rows
+        .iter()
+        .flat_map(|row| &row.calls)
+        .map(|call| call.text.to_string())
+        .collect();
+    assert_eq!(
+        named.len(),
+        expected.len(),
+        "{GUARANTEES}: a call in two rows, or in none"
+    );
+    assert_eq!(named.into_iter().collect::<BTreeSet<_>>(), expected);
+}
+
+#[test]
+fn refusals_are_those_of_the_lists() {
+    let mut complaints = Vec::new();
+    for row in rows(&read(GUARANTEES)) {
+        let law = row.law.text;
+        let states = statement(row.law.files[0], law);
+        let mut listed = Vec::new();
+        for name in &row.list {
+            listed.extend(numbers_of(name.files[0], name.text));
+            if !states
+                .split(|c: char| !c.is_alphanumeric())
+                .any(|word| word == name.text)
+            {
+                complaints.push(format!("{GUARANTEES}: {law} does not name {}", name.text));
+            }
+        }
+        if listed != row.numbers {
+            let numbers = &row.numbers;
+            complaints.push(format!(
+                "{GUARANTEES}: {law}: {numbers:?}, and the list has {listed:?}"
+            ));
+        }
+    }
+    none(complaints);
+}
+
+/// The exports that a row of the manual names before a colon, as `Checks, scan: ..`; none where it names none.
+fn named_in(cell: &str) -> BTreeSet<String> {
+    let fronts = cell
+        .split(". ")
+        .filter_map(|sentence| sentence.split_once(':'));
+    let words = fronts.flat_map(|(front, _)| front.split(", "));
+    let all = exports();
+    words
+        .flat_map(|word| match word.trim().to_lowercase().as_str() {
+            "checks" => vec!["table_check".to_string(), "pair_check".to_string()],
+            word => vec![word.replace(' ', "_")],
+        })
+        .map(|word| format!("paradox_{word}"))
+        .filter(|name| all.contains(name))
+        .collect()
+}
+
+#[test]
+fn the_manual_has_the_same_refusals() {
+    let (manual, guarantees) = (read(MANUAL), read(GUARANTEES));
+    let (_, section) = manual
+        .split_once("\n## Refusals\n")
+        .expect("a section 'Refusals'");
+    let rows = rows(&guarantees);
+    let mut complaints = Vec::new();
+    for name in exports() {
+        let row = rows
+            .iter()
+            .find(|row| row.calls.iter().any(|call| call.text == name));
+        let proved: BTreeSet<u32> = row.expect("a row").numbers.iter().copied().collect();
+        let start = format!("| `{name}` |");
+        let line = section.lines().find_map(|line| line.strip_prefix(&start));
+        let written: BTreeSet<u32> = numbers_in(line.unwrap_or_default()).into_iter().collect();
+        if written != proved {
+            complaints.push(format!(
+                "{MANUAL}: {name}: {written:?}, and proved is {proved:?}"
+            ));
+        }
+    }
+    for (name, number) in refusals(&read(REFUSALS), "pub const ", ": u8 = ") {
+        let start = format!("| {number} | `PARADOX_{name}` |");
+        let line = section.lines().find_map(|line| line.strip_prefix(&start));
+        let named = named_in(
+            line.and_then(|line| line.split('|').next())
+                .unwrap_or_default(),
+        );
+        let giving = rows.iter().filter(|row| row.numbers.contains(&number));
+        let given: BTreeSet<String> = giving
+            .flat_map(|row| &row.calls)
+            .map(|call| call.text.to_string())
+            .filter(|call| call.starts_with("paradox_"))
+            .collect();
+        if !named.is_empty() && named != given {
+            complaints.push(format!(
+                "{MANUAL}: {number}: {named:?}, and proved is {given:?}"
+            ));
+        }
+    }
+    none(complaints);
 }
 
 #[test]

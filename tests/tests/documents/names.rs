@@ -72,7 +72,7 @@ fn of_table<'a>(table: &'a str, line: usize, section: &[&'a str]) -> Vec<Name<'a
 }
 
 /// The names of a cell or a paragraph; `otherwise` are the files of those that have none behind them.
-fn of_text<'a>(text: &'a str, first: usize, otherwise: &[&'a str]) -> Vec<Name<'a>> {
+pub fn of_text<'a>(text: &'a str, first: usize, otherwise: &[&'a str]) -> Vec<Name<'a>> {
     let mut names: Vec<Name> = Vec::new();
     let mut files = Vec::new(); // those in the parentheses at hand
     let mut waiting = 0; // from here on the names wait for a file

@@ -15,7 +15,8 @@ returns c =
     let v = c .before .before .before .before .before .args in
     let r = c .before .before .read in
     answers (v .table .now) (v .mb .now) (v .block) (v .place) (v .field) (Refused (r .result .refusal))
-    (blob-refused (v .table .now) (v .mb .now) (v .block) (v .place) (v .field) (r .result) (r .ensures) (c .if1 .taken))
+    (blob-refused (v .table .now) (v .mb .now) (v .block) (v .place) (v .field) (r .result) (r .ensures)
+    (c .if1 .taken))
 
 find-in-requires : tie.Need-find-in-requires
 find-in-requires c κs =

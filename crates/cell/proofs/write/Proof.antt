@@ -1,18 +1,36 @@
--- `write` meets its contract: 13, 12, 14, 11 in that order, then the form. Assumes nothing.
+-- `write` meets its contract: 13, 12, 14, 11 in that order, then the form; and what has the form reads back, since a
+-- program's double is one of the format. Assumes nothing.
 use borrow.Author.Needs.{needs}
 use mathlib.Core.Path.{_≡_, sym, _∙_}
 use borrow.Author.Tests.{not-true, not-false}
 use mathlib.Core.Bool.{true, false}
+use mathlib.Core.List.{List}
+use Prim.Native.Nat.{ℕ}
+use Rattle.header.specs.Refusals.{blobCell, badArgument, shortBuffer}
 use Rattle.header.specs.Kinds.{kindOf, isBlob}
 use Rattle.header.specs.declared.kind.StoredKind.the-variants.{Kind}
 use Rattle.header.proofs.KindLaws.{kind-width}
-use Rattle.cell.specs.Writing.{ofKind}
+use Rattle.cell.specs.Writing.{ofKind, writtenOf, WrittenReads}
 use Rattle.cell.specs.Values.{contentOf}
 use Rattle.cell.specs.Steps.{OfWidth}
 use Rattle.cell.proofs.ValueKinds.{of-kind-inside}
+use Rattle.cell.proofs.RoundTrip.{reads-back, good-held}
 use Rattle.cell.proofs.WritingLaws.{write-unknown, write-blob, write-other, write-short, write-form}
 use Rattle.cell.proofs.write.Statement.{statement}
 use Rattle.cell.proofs.write.Tie as tie
+
+-- an answer of the definition is both parts of the contract
+module _ (c : tie.Start) where
+  both : (n : ℕ) (out : List ℕ) → let v = c .args in
+      (n, out) ≡ writtenOf (v .code) (v .width) (v .text .now) (v .value) (v .buffer .now)
+      → ((n, out) ≡ writtenOf (v .code) (v .width) (v .text .now) (v .value) (v .buffer .now))
+      × WrittenReads (v .code) (v .width) (v .text .now) (v .value) (v .buffer .now) (n, out)
+  both n out e = let v = c .args in (
+    e,
+    λ z.
+        reads-back (v .code) (v .width) (contentOf (v .text .now) (v .value)) (v .buffer .now) out
+        (good-held (v .text .now) (v .value) _ (c .good .1 .1 .0)) (sym (rw z at e)),
+  )
 
 of-requires : tie.Need-of-requires
 of-requires c κs = search needs
@@ -25,9 +43,11 @@ enum-told c = search needs
 
 returns : tie.Need-returns
 returns c =
-    let v = c .before .before .before .before .before .args in
-    write-unknown (v .code) (v .width) (contentOf (v .text .now) (v .value)) (v .buffer .now)
-    (sym (c .before .before .of .ensures) ∙ c .enum-told .given .1)
+    let u = c .before .before .before .before .before in
+    let v = u .args in
+    both u badArgument (v .buffer .now)
+    (write-unknown (v .code) (v .width) (contentOf (v .text .now) (v .value)) (v .buffer .now)
+    (sym (c .before .before .of .ensures) ∙ c .enum-told .given .1))
 
 -- the kind of the code and the width
 known : (c : tie.After-known-told) → let v = c .before .before .before .before .before .before .args in
@@ -39,10 +59,12 @@ is-blob-requires c κs = search needs
 
 returns-2 : tie.Need-returns-2
 returns-2 c =
-    let v = c .before .before .before .before .before .before .before .before .args in
-    write-blob (v .code) (v .width) (contentOf (v .text .now) (v .value)) (v .buffer .now)
+    let u = c .before .before .before .before .before .before .before .before in
+    let v = u .args in
+    both u blobCell (v .buffer .now)
+    (write-blob (v .code) (v .width) (contentOf (v .text .now) (v .value)) (v .buffer .now)
     (c .before .before .before .kind .given .0 .0) (known (c .before .before))
-    (sym (c .before .is-blob .ensures) ∙ c .if1 .taken)
+    (sym (c .before .is-blob .ensures) ∙ c .if1 .taken))
 
 -- it is no blob's
 plain : (c : tie.Else1) → isBlob (c .before .before .before .kind .given .0 .0) ≡ false
@@ -53,11 +75,13 @@ is-of-kind-requires c κs = search needs
 
 returns-3 : tie.Need-returns-3
 returns-3 c =
-    let v = c .before .before .before .before .before .before .before .before .before .before .args in
-    write-other (v .code) (v .width) (contentOf (v .text .now) (v .value)) (v .buffer .now)
+    let u = c .before .before .before .before .before .before .before .before .before .before in
+    let v = u .args in
+    both u badArgument (v .buffer .now)
+    (write-other (v .code) (v .width) (contentOf (v .text .now) (v .value)) (v .buffer .now)
     (c .before .before .before .before .before .kind .given .0 .0) (known (c .before .before .before .before))
     (plain (c .before .before))
-    (sym (c .before .is-of-kind .ensures) ∙ not-true (c .before .is-of-kind .result) (c .if2 .taken))
+    (sym (c .before .is-of-kind .ensures) ∙ not-true (c .before .is-of-kind .result) (c .if2 .taken)))
 
 -- the value is of the kind
 kindred : (c : tie.Else2) → let d = c .before .before .before .before .before in
@@ -67,11 +91,13 @@ kindred c = sym (c .before .is-of-kind .ensures) ∙ not-false (c .before .is-of
 
 returns-4 : tie.Need-returns-4
 returns-4 c =
-    let v = c .before .before .before .before .before .before .before .before .before .before .before .args in
-    write-short (v .code) (v .width) (contentOf (v .text .now) (v .value)) (v .buffer .now)
+    let u = c .before .before .before .before .before .before .before .before .before .before .before in
+    let v = u .args in
+    both u shortBuffer (v .buffer .now)
+    (write-short (v .code) (v .width) (contentOf (v .text .now) (v .value)) (v .buffer .now)
     (c .before .before .before .before .before .before .kind .given .0 .0)
     (known (c .before .before .before .before .before)) (plain (c .before .before .before)) (kindred (c .before))
-    (c .if3 .taken)
+    (c .if3 .taken))
 
 put-value-requires : tie.Need-put-value-requires
 put-value-requires c κs =
@@ -89,12 +115,14 @@ same-length c = search needs
 returns-5 : tie.Need-returns-5
 returns-5 c =
     let d = c .before .before .before .before in
-    let v = d .before .before .before .before .before .before .before .before .before .before .before .args in
-    c .before .before .put-value .ensures
+    let u = d .before .before .before .before .before .before .before .before .before .before .before in
+    let v = u .args in
+    both u (c .before .before .put-value .result) (c .before .before .put-value .last .1 .1 .1 .0)
+    (c .before .before .put-value .ensures
     ∙ write-form (v .code) (v .width) (contentOf (v .text .now) (v .value)) (v .buffer .now)
     (d .before .before .before .before .before .before .kind .given .0 .0)
     (known (d .before .before .before .before .before)) (plain (d .before .before .before)) (kindred (d .before))
-    (d .if3 .left)
+    (d .if3 .left))
 
 pub write-spec : {M : Type 1} → statement M
 write-spec =

@@ -57,8 +57,8 @@ block-fits-requires c κs =
     let r = c .before .before .before in
     (descendable (T r) (H r) (X r) (I r) (asked r) (G r) (shape r), asked r .index .levels-least (r .before .if1 .left))
 
-enum-known-rest : tie.Need-enum-known-rest
-enum-known-rest c = search needs
+enum-known-fit : tie.Need-enum-known-fit
+enum-known-fit c = search needs
 
 enum-told : tie.Need-enum-told
 enum-told c = search needs
@@ -67,21 +67,21 @@ returns-2 : tie.Need-returns-2
 returns-2 c =
     let r = c .before .before .before .before .before .before in
     sym (tree-unfit (T r) (H r) (X r) (I r) (asked r) (G r) (shape r) (r .before .if1 .left)
-    (sym (c .before .before .block-fits .ensures) ∙ c .enum-told .given .1))
+    (sym (c .before .before .block-fits .ensures .0) ∙ c .enum-told .given .1))
 
 first-holding-requires : tie.Need-first-holding-requires
 first-holding-requires c κs =
     let r = c .before .before .before .before .before .before .before in
-    next-followed (T r) (H r) (X r) (I r) (asked r) (G r) (shape r) (c .before .rest .given .0 .0)
-    (sym (c .before .before .before .block-fits .ensures) ∙ c .before .rest .given .1)
+    next-followed (T r) (H r) (X r) (I r) (asked r) (G r) (shape r) (c .before .fit .given .0 .0)
+    (sym (c .before .before .before .block-fits .ensures .0) ∙ c .before .fit .given .1)
 
 returns-3 : tie.Need-returns-3
 returns-3 c =
     let r = c .before .before .before .before .before .before .before .before in
     ap (λ (b : ℕ). eqb b 0) (c .first-holding .ensures)
     ∙ sym (tree-next (T r) (H r) (X r) (I r) (asked r) (G r) (shape r) (r .before .if1 .left)
-    (c .before .before .rest .given .0 .0) (sym (c .before .before .before .before .block-fits .ensures)
-    ∙ c .before .before .rest .given .1))
+    (c .before .before .fit .given .0 .0) (sym (c .before .before .before .before .block-fits .ensures .0)
+    ∙ c .before .before .fit .given .1))
 
 pub tree-fits-spec : {M : Type 1} → statement M
 tree-fits-spec =
@@ -92,7 +92,7 @@ tree-fits-spec =
     cast-root
     cast-block-fits
     block-fits-requires
-    enum-known-rest
+    enum-known-fit
     enum-told
     returns-2
     first-holding-requires

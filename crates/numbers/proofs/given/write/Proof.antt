@@ -25,7 +25,7 @@ same-length c = search needs
 
 returns-2 : tie.Need-returns-2
 returns-2 c =
-    rw (← c .before .before .before .before .value-given .ensures) (c .before .before .write .ensures)
+    rw (← c .before .before .before .before .value-given .ensures) (c .before .before .write .ensures .0)
 
 pub write-spec : {M : Type 1} → statement M
 write-spec =
