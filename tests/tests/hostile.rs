@@ -1,6 +1,7 @@
 //! How much of an index the pair check looks at: at each level no more entries than there are used
 //! blocks that hold records, and one. The entries behind those are on a page that nobody may touch.
 
+use brittomaz_tests::calls::paradox_pair_check;
 use brittomaz_tests::fence::{Fence, Side};
 use brittomaz_tests::generate::{
     IndexImage, IndexShape, Leaf, Shape, StoredField, TableImage, UsedBlock,
@@ -13,17 +14,6 @@ const ENTRY: usize = KEY_LENGTH + ENTRY_TAIL;
 const FULL: usize = (UNIT - BLOCK_HEAD) / ENTRY;
 const FITS: u32 = 0;
 const BROKEN_TREE: u32 = 27;
-
-extern "C" {
-    fn paradox_pair_check(
-        table: *const u8,
-        table_len: usize,
-        index: *const u8,
-        index_len: usize,
-        marks: *mut u8,
-        marks_len: usize,
-    ) -> u32;
-}
 
 /// The entry of a data block, and of an index block of the same number.
 fn entry(number: u16) -> Leaf {

@@ -13,7 +13,8 @@ const BEHIND_LEADER: usize = 10;
 
 const LENGTH: usize = 4;
 
-// The blob of the cell of `width` bytes at a place in the table.
+// The blob of the cell of `width` bytes at a place in the table. The module is private.
+// A helper and no call for users: `find_in`, its caller, has located the cell.
 pub fn blob_at(table: &[u8], mb: &[u8], at: usize, width: usize) -> Blob
     requires { ⌜ (behindLeader ≤ width) × (at + width ≤ length (now table)) ⌝ }
     ensures { λ r. ⌜ r ≡ blobAt (now (table .entry)) (now (mb .entry)) at width ⌝ }

@@ -27,8 +27,8 @@ pub fn find(table: &[u8], mb: &[u8], block: usize, place: usize, field: usize) -
     find_in(table, mb, h, block, place, field)
 }
 
-// The blob of a table whose header is accepted: what `find` answers once rules 1 to 7 are kept. A helper: its caller
-// has read the header.
+// The blob of a table whose header is accepted: what `find` answers once rules 1 to 7 are kept.
+// A helper of the crates above and no call for users: its caller has read the header.
 pub fn find_in(table: &[u8], mb: &[u8], h: Header, block: usize, place: usize, field: usize) -> Blob
     requires { ⌜ Accepted (now table) h ⌝ }
     ensures { λ r. ⌜ r ≡ blockBlob (now (table .entry)) (now (mb .entry)) h block place field ⌝ }

@@ -143,5 +143,5 @@ pub record ReadsBack (code w : ℕ) (c : Content) (before after : List ℕ) : Ty
   pub long : length after ≡ length before
 
 -- where the answer is 0, a Value, whose text is a part of lent bytes, reads back
-abbrev pub WrittenReads : ℕ → ℕ → List ℕ → Value → List ℕ → ℕ × List ℕ → Type 0
-WrittenReads code w s v before (n, after) = n ≡ 0 → ReadsBack code w (contentOf s v) before after
+abbrev pub GivesBack : ℕ → ℕ → List ℕ → Value → List ℕ → ℕ × List ℕ → Type 0
+GivesBack code w s v before (n, after) = n ≡ 0 → ReadsBack code w (contentOf s v) before after

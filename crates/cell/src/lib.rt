@@ -28,7 +28,7 @@ ghost use Rattle.words.specs.Order.{behind};
 ghost use Rattle.header.specs.Rules.{Accepted};
 ghost use Rattle.cell.specs.Values.{answerOf, textOf};
 ghost use Rattle.cell.specs.Reading.{blockCell, cellOf, readOf, textStart};
-ghost use Rattle.cell.specs.Writing.{WrittenReads, writtenOf};
+ghost use Rattle.cell.specs.Writing.{GivesBack, writtenOf};
 use header::Field;
 use header::FieldKind;
 use header::Header;
@@ -49,8 +49,8 @@ pub fn read(table: &[u8], block: usize, place: usize, field: usize) -> Cell
     read_in(table, h, block, place, field)
 }
 
-// The cell of a table whose header is accepted: what `read` answers once rules 1 to 7 are kept. A helper: its caller
-// has read the header.
+// The cell of a table whose header is accepted: what `read` answers once rules 1 to 7 are kept.
+// A helper of the crates above and no call for users: its caller has read the header.
 pub fn read_in(table: &[u8], h: Header, block: usize, place: usize, field: usize) -> Cell
     requires { ⌜ Accepted (now table) h ⌝ }
     ensures { λ r. ⌜ r ≡ blockCell (now (table .entry)) h block place field ⌝ }
@@ -86,7 +86,7 @@ pub fn text(table: &[u8], block: usize, place: usize, field: usize) -> &[u8]
 // first `width` bytes read as the value, a double bit by bit.
 pub fn write(code: u8, width: usize, value: Value, text: &[u8], buffer: &mut [u8]) -> u8
     ensures { λ r. ⌜ (r, now (buffer .exit)) ≡ writtenOf code width (now (text .entry)) value (now (buffer .entry)) ⌝ }
-    ensures { λ r. ⌜ WrittenReads code width (now (text .entry)) value (now (buffer .entry)) (r, now (buffer .exit)) ⌝ }
+    ensures { λ r. ⌜ GivesBack code width (now (text .entry)) value (now (buffer .entry)) (r, now (buffer .exit)) ⌝ }
 {
     let StoredKind::Kind(kind) = FieldKind::of(code, width) else {
         return refusal::BAD_ARGUMENT;

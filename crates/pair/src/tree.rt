@@ -32,6 +32,7 @@ pub struct Looked {
 }
 
 // The first block that holds records from a number of the used chain on; 0 where there is none.
+// A helper of the pair check and no call for users: the table is accepted, so its chain is good.
 pub fn first_holding(table: &[u8], shape: Shape, from: usize) -> usize
     requires { ⌜ Followed (now table) shape from ⌝ }
     ensures { λ r. ⌜ r ≡ holdingFrom (now (table .entry)) shape from ⌝ }
@@ -77,6 +78,7 @@ fn leaf_fits(
 }
 
 // An index block at a level of 1 or more: each of its entries, left to right.
+// A helper of the pair check and no call for users: the table and the index's header are accepted.
 pub fn block_fits(
     table: &[u8],
     index: &[u8],

@@ -10,7 +10,8 @@ extern "C" {
         marks: *mut u8,
         marks_len: usize,
     ) -> u32;
-    fn paradox_pair_check(
+    /// The call itself, for a test that lends less memory than it says.
+    pub fn paradox_pair_check(
         table: *const u8,
         table_len: usize,
         index: *const u8,

@@ -10,7 +10,7 @@ use Rattle.header.specs.Refusals.{blobCell, badArgument, shortBuffer}
 use Rattle.header.specs.Kinds.{kindOf, isBlob}
 use Rattle.header.specs.declared.kind.StoredKind.the-variants.{Kind}
 use Rattle.header.proofs.KindLaws.{kind-width}
-use Rattle.cell.specs.Writing.{ofKind, writtenOf, WrittenReads}
+use Rattle.cell.specs.Writing.{ofKind, writtenOf, GivesBack}
 use Rattle.cell.specs.Values.{contentOf}
 use Rattle.cell.specs.Steps.{OfWidth}
 use Rattle.cell.proofs.ValueKinds.{of-kind-inside}
@@ -24,7 +24,7 @@ module _ (c : tie.Start) where
   both : (n : ℕ) (out : List ℕ) → let v = c .args in
       (n, out) ≡ writtenOf (v .code) (v .width) (v .text .now) (v .value) (v .buffer .now)
       → ((n, out) ≡ writtenOf (v .code) (v .width) (v .text .now) (v .value) (v .buffer .now))
-      × WrittenReads (v .code) (v .width) (v .text .now) (v .value) (v .buffer .now) (n, out)
+      × GivesBack (v .code) (v .width) (v .text .now) (v .value) (v .buffer .now) (n, out)
   both n out e = let v = c .args in (
     e,
     λ z.
