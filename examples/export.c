@@ -105,14 +105,14 @@ static uint8_t *put_fewest_digits(uint8_t *to, double number)
 /*
  * A double, so that it reads back to the same one. Most are whole ten-thousandths: n / 10000 is rounded once, as the
  * reader of its decimal digits rounds them, so where it gives the double, those digits do. As n has no more than
- * 15 digits, there are none fewer.
+ * 15 digits, there are none fewer. Bits are compared: 0 / 10000 is not negative zero, which is printed as -0.
  */
 static uint8_t *put_number(uint8_t *to, double number)
 {
     double scaled = number * 10000;
     if (scaled > -1e15 && scaled < 1e15) {
         int64_t nearest = (int64_t)(scaled < 0 ? scaled - 0.5 : scaled + 0.5);
-        if ((double)nearest / 10000 == number) {
+        if (paradox_from_double((double)nearest / 10000) == paradox_from_double(number)) {
             to = put_sign(to, &nearest);
             to = put_digits(to, (uint64_t)nearest / 10000, 1);
             return put_fraction(to, (uint64_t)nearest % 10000);

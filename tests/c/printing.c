@@ -38,7 +38,14 @@ static void expect_number(double number)
     expect(strcmp(printed, wanted) == 0, wanted, printed);
 }
 
-/* The doubles next to a number too. Negative zero is no number of a table. */
+static void expect_printed(double number, const char *wanted)
+{
+    char printed[MOST_OF_CELL + 1];
+    *put_number((uint8_t *)printed, number) = 0;
+    expect(strcmp(printed, wanted) == 0, wanted, printed);
+}
+
+/* The doubles next to a number too, and all of them with the other sign. */
 static void expect_numbers_around(double number)
 {
     for (int sign = 0; sign < 2; sign++, number = -number) {
@@ -46,7 +53,7 @@ static void expect_numbers_around(double number)
             uint64_t bits = paradox_from_double(number) + (uint64_t)(int64_t)step;
             double near;
             memcpy(&near, &bits, sizeof near);
-            if (near - near == 0 && bits != paradox_from_double(-0.0)) {
+            if (near - near == 0) {
                 expect_number(near);
             }
         }
@@ -162,6 +169,9 @@ static void expect_widest(void)
 int main(void)
 {
     numbers();
+    expect_printed(0.0, "0");
+    expect_printed(-0.0, "-0");
+    expect_printed(-0.15, "-0.15");
     dates();
     expect_date(36160, "0100-01-01");
     expect_date(728783, "1996-05-04");

@@ -140,7 +140,7 @@ static void cells_of_oar(size_t at, uint64_t *cells)
 {
     const uint64_t wanted[CELLS] = {PARADOX_TEXT, at, 3, 0, PARADOX_SHORT, UINT64_MAX, 0, 0,
                                     PARADOX_LONG, 0x7fffffff, 0, 0, PARADOX_REFUSED, 11, 0, 0,
-                                    PARADOX_REFUSED, 11, 0, 0, PARADOX_NUMBER, 0x800fffffffffffff, 0, 0,
+                                    PARADOX_REFUSED, 11, 0, 0, PARADOX_REFUSED, 11, 0, 0,
                                     PARADOX_REFUSED, 11, 0, 0, PARADOX_REFUSED, 12, 0, 0, PARADOX_REFUSED, 11, 0, 0};
     memcpy(cells, wanted, sizeof wanted);
 }
@@ -179,6 +179,52 @@ static void values(const uint8_t *table, size_t len)
     expect("refusal of a blob", paradox_cell_refusal(paradox_cell_of(cells, 8)), PARADOX_BLOB_CELL);
     expect("value of an integer", paradox_from_integer(-1), UINT64_MAX);
     expect("value of a double", paradox_from_double(1.0), 0x3ff0000000000000);
+    expect("value of negative zero", paradox_from_double(-0.0), 0x8000000000000000);
+}
+
+/* Stored doubles in the order of their bytes, on both sides of each limit: the bits of the double, or the refusal. */
+static const struct {
+    const char *stored;
+    uint64_t bits;
+    uint32_t refusal;
+} DOUBLES[] = {
+    {"\0\0\0\0\0\0\0\1", 0, PARADOX_NO_MEANING},
+    {"\0\x0f\xff\xff\xff\xff\xff\xfe", 0, PARADOX_NO_MEANING},
+    {"\0\x0f\xff\xff\xff\xff\xff\xff", 0, PARADOX_NO_MEANING},
+    {"\0\x10\0\0\0\0\0\0", 0xffefffffffffffff, PARADOX_ACCEPTED},
+    {"\x40\x0f\xff\xff\xff\xff\xff\xff", 0xbff0000000000000, PARADOX_ACCEPTED},
+    {"\x7f\xef\xff\xff\xff\xff\xff\xff", 0x8010000000000000, PARADOX_ACCEPTED},
+    {"\x7f\xf0\0\0\0\0\0\0", 0x800fffffffffffff, PARADOX_ACCEPTED},
+    {"\x7f\xff\xff\xff\xff\xff\xff\xfe", 0x8000000000000001, PARADOX_ACCEPTED},
+    {"\x7f\xff\xff\xff\xff\xff\xff\xff", 0x8000000000000000, PARADOX_ACCEPTED},
+    {"\x80\0\0\0\0\0\0\0", 0, PARADOX_ACCEPTED},
+    {"\x80\0\0\0\0\0\0\1", 1, PARADOX_ACCEPTED},
+    {"\x80\x0f\xff\xff\xff\xff\xff\xff", 0x000fffffffffffff, PARADOX_ACCEPTED},
+    {"\x80\x10\0\0\0\0\0\0", 0x0010000000000000, PARADOX_ACCEPTED},
+    {"\xff\xef\xff\xff\xff\xff\xff\xff", 0x7fefffffffffffff, PARADOX_ACCEPTED},
+    {"\xff\xf0\0\0\0\0\0\0", 0, PARADOX_NO_MEANING},
+    {"\xff\xf0\0\0\0\0\0\1", 0, PARADOX_NO_MEANING},
+    {"\xff\xff\xff\xff\xff\xff\xff\xff", 0, PARADOX_NO_MEANING},
+};
+
+/* Each stored double in turn, as the one cell of a table: a currency or a number. */
+static void doubles(uint8_t code)
+{
+    const struct field field = {code, 8, "Price"};
+    uint8_t *table = table_of(&field, 1, 0, 1);
+    set_chains(table, 1, 1, 0, 1);
+    for (size_t i = 0; i < sizeof DOUBLES / sizeof DOUBLES[0]; i++) {
+        const uint64_t wanted[PARADOX_CELL_NUMBERS] = {PARADOX_NUMBER, DOUBLES[i].bits, 0, 0};
+        uint64_t *cell = lend(LENT);
+        set_block(table, 1, 0, 0, (const uint8_t *)DOUBLES[i].stored, 1);
+        expect("stored double", paradox_cell(table, file_len(1), 1, 0, 1, cell, LENT), DOUBLES[i].refusal);
+        if (DOUBLES[i].refusal == PARADOX_ACCEPTED) {
+            expect_numbers("bits of a double", cell, LENT, wanted, PARADOX_CELL_NUMBERS);
+        } else {
+            expect_all("a refused double's numbers", cell, LENT, 0);
+        }
+    }
+    free(table);
 }
 
 static void cell_refused(const char *what, const uint8_t *table, const size_t *asked, size_t lent, uint32_t number)
@@ -361,6 +407,8 @@ int main(void)
     headers(table, len);
     fields(table, len);
     cells_and_records(table, len);
+    doubles(0x05);
+    doubles(0x06);
     cursors(table, len);
     forged_cursors(table);
     broken_chains(table);

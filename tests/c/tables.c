@@ -67,6 +67,7 @@ int main(int argc, char **argv)
     write_records(argv[1], "day.db", DAYS, 1, "\x80\x00\x8d\x40" "\x80\x37\xb9\xdc", 2);
     write_records(argv[1], "numbers.db", NUMBERS, 1,
                   "\xbf\xf0\0\0\0\0\0\0" "\x80\0\0\0\0\0\0\0" "\0\0\0\0\0\0\0\0" "\xff\xef\xff\xff\xff\xff\xff\xff"
-                  "\0\0\0\0\0\0\0\1", 5);
+                  "\x40\x0f\xff\xff\xff\xff\xff\xff" "\x7f\xff\xff\xff\xff\xff\xff\xff"
+                  "\x7f\xff\xff\xff\xff\xff\xff\xfe" "\0\x10\0\0\0\0\0\0", 8);
     return 0;
 }

@@ -1,5 +1,6 @@
 /*
- * Values written and read back as C sees it: document 01's stored forms and refusals, every lent byte afterwards.
+ * Values written and read back as C sees it: the stored forms and refusals of document 01, those of doubles by request
+ * 02 of document 02, every lent byte afterwards.
  */
 #include "common.h"
 
@@ -37,10 +38,19 @@ static const struct value STORED[] = {
     {0x04, 4, PARADOX_LONG, 2147483647, NULL, 0, LENT, 0, "\xff\xff\xff\xff"},
     {0x06, 8, PARADOX_NUMBER, UINT64_C(0x3ff0000000000000), NULL, 0, 8, 0, "\xbf\xf0\0\0\0\0\0\0"},
     {0x05, 8, PARADOX_NUMBER, UINT64_C(0x3ff0000000000000), NULL, 0, LENT, 0, "\xbf\xf0\0\0\0\0\0\0"},
-    {0x06, 8, PARADOX_NUMBER, UINT64_C(0x7fefffffffffffff), NULL, 0, LENT, 0, "\xff\xef\xff\xff\xff\xff\xff\xff"},
-    {0x06, 8, PARADOX_NUMBER, UINT64_C(0xffefffffffffffff), NULL, 0, LENT, 0, "\x7f\xef\xff\xff\xff\xff\xff\xff"},
-    {0x06, 8, PARADOX_NUMBER, TOP_BIT | 1, NULL, 0, LENT, 0, "\0\0\0\0\0\0\0\1"},
+    {0x06, 8, PARADOX_NUMBER, UINT64_C(0xbff0000000000000), NULL, 0, 8, 0, "\x40\x0f\xff\xff\xff\xff\xff\xff"},
+    {0x05, 8, PARADOX_NUMBER, UINT64_C(0xbff0000000000000), NULL, 0, LENT, 0, "\x40\x0f\xff\xff\xff\xff\xff\xff"},
+    {0x06, 8, PARADOX_NUMBER, UINT64_C(0xffefffffffffffff), NULL, 0, LENT, 0, "\0\x10\0\0\0\0\0\0"},
+    {0x06, 8, PARADOX_NUMBER, UINT64_C(0x8010000000000000), NULL, 0, LENT, 0, "\x7f\xef\xff\xff\xff\xff\xff\xff"},
+    {0x06, 8, PARADOX_NUMBER, UINT64_C(0x800fffffffffffff), NULL, 0, LENT, 0, "\x7f\xf0\0\0\0\0\0\0"},
+    {0x06, 8, PARADOX_NUMBER, TOP_BIT | 1, NULL, 0, LENT, 0, "\x7f\xff\xff\xff\xff\xff\xff\xfe"},
+    {0x06, 8, PARADOX_NUMBER, TOP_BIT, NULL, 0, LENT, 0, "\x7f\xff\xff\xff\xff\xff\xff\xff"},
+    {0x05, 8, PARADOX_NUMBER, TOP_BIT, NULL, 0, 8, 0, "\x7f\xff\xff\xff\xff\xff\xff\xff"},
     {0x06, 8, PARADOX_NUMBER, 0, NULL, 0, LENT, 0, "\x80\0\0\0\0\0\0\0"},
+    {0x06, 8, PARADOX_NUMBER, 1, NULL, 0, LENT, 0, "\x80\0\0\0\0\0\0\1"},
+    {0x06, 8, PARADOX_NUMBER, UINT64_C(0x000fffffffffffff), NULL, 0, LENT, 0, "\x80\x0f\xff\xff\xff\xff\xff\xff"},
+    {0x06, 8, PARADOX_NUMBER, UINT64_C(0x0010000000000000), NULL, 0, LENT, 0, "\x80\x10\0\0\0\0\0\0"},
+    {0x06, 8, PARADOX_NUMBER, UINT64_C(0x7fefffffffffffff), NULL, 0, LENT, 0, "\xff\xef\xff\xff\xff\xff\xff\xff"},
     {0x09, 1, PARADOX_LOGICAL, 0, NULL, 0, 1, 0, "\x80"},
     {0x09, 1, PARADOX_LOGICAL, 1, NULL, 0, LENT, 0, "\x81"},
     {0x01, 3, PARADOX_TEXT, 99, "cog", 3, 3, 0, "cog"},
@@ -105,10 +115,12 @@ static const struct value REFUSED[] = {
     {0x02, 4, PARADOX_DATE, 3652060, NULL, 0, LENT, PARADOX_NO_MEANING, NULL},
     {0x02, 4, PARADOX_DATE, 0, NULL, 0, LENT, PARADOX_NO_MEANING, NULL},
     {0x02, 4, PARADOX_DATE, UINT64_C(0xffffffff), NULL, 0, LENT, PARADOX_NO_MEANING, NULL},
-    {0x06, 8, PARADOX_NUMBER, TOP_BIT, NULL, 0, LENT, PARADOX_NO_MEANING, NULL},
     {0x06, 8, PARADOX_NUMBER, UINT64_C(0x7ff0000000000000), NULL, 0, LENT, PARADOX_NO_MEANING, NULL},
     {0x06, 8, PARADOX_NUMBER, UINT64_C(0xfff0000000000000), NULL, 0, LENT, PARADOX_NO_MEANING, NULL},
+    {0x06, 8, PARADOX_NUMBER, UINT64_C(0x7ff0000000000001), NULL, 0, LENT, PARADOX_NO_MEANING, NULL},
+    {0x06, 8, PARADOX_NUMBER, UINT64_C(0xfff0000000000001), NULL, 0, LENT, PARADOX_NO_MEANING, NULL},
     {0x05, 8, PARADOX_NUMBER, UINT64_C(0x7ff8000000000000), NULL, 0, LENT, PARADOX_NO_MEANING, NULL},
+    {0x05, 8, PARADOX_NUMBER, UINT64_C(0x7fffffffffffffff), NULL, 0, LENT, PARADOX_NO_MEANING, NULL},
     {0x05, 8, PARADOX_NUMBER, UINT64_MAX, NULL, 0, LENT, PARADOX_NO_MEANING, NULL},
     {0x01, 3, PARADOX_TEXT, 0, NULL, 0, LENT, PARADOX_NO_MEANING, NULL},
     {0x01, 3, PARADOX_TEXT, 0, "rope", 4, LENT, PARADOX_NO_MEANING, NULL},

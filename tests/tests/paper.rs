@@ -1,5 +1,6 @@
-//! The model on the worked examples of document 01.
+//! The model on the worked examples of document 01, its doubles by request 02 of document 02.
 
+use brittomaz_tests::calls;
 use brittomaz_tests::codes;
 use brittomaz_tests::generate::{Shape, StoredField, TableImage, UsedBlock};
 use brittomaz_tests::layout::{put_word, LAST_RECORD};
@@ -166,11 +167,55 @@ fn no_stored_form() {
     for day in [0, 36_159, 3_652_060, u32::MAX] {
         assert_eq!(written(codes::DATE, 4, Value::Date(day)), refused);
     }
-    for number in [-0.0, f64::INFINITY, f64::NEG_INFINITY, f64::NAN, -f64::NAN] {
+    for number in [f64::INFINITY, f64::NEG_INFINITY, f64::NAN, -f64::NAN] {
         assert_eq!(written(codes::CURRENCY, 8, Value::Double(number)), refused);
     }
-    let zero = vec![0x80, 0, 0, 0, 0, 0, 0, 0];
-    assert_eq!(written(codes::NUMBER, 8, Value::Double(0.0)), Ok(zero));
+}
+
+const LEAST_SUBNORMAL: f64 = f64::from_bits(1);
+const GREATEST_SUBNORMAL: f64 = f64::from_bits(0x000F_FFFF_FFFF_FFFF);
+
+/// Stored numbers in the order of their bytes, on both sides of each limit, and the doubles that they
+/// are; `None` where they are refused.
+const DOUBLES: [(u64, Option<f64>); 20] = [
+    (0x0000_0000_0000_0001, None),
+    (0x0007_FFFF_FFFF_FFFF, None),
+    (0x000F_FFFF_FFFF_FFFE, None),
+    (0x000F_FFFF_FFFF_FFFF, None),
+    (0x0010_0000_0000_0000, Some(f64::MIN)),
+    (0x400F_FFFF_FFFF_FFFF, Some(-1.0)),
+    (0x7FEF_FFFF_FFFF_FFFF, Some(-f64::MIN_POSITIVE)),
+    (0x7FF0_0000_0000_0000, Some(-GREATEST_SUBNORMAL)),
+    (0x7FFF_FFFF_FFFF_FFFE, Some(-LEAST_SUBNORMAL)),
+    (0x7FFF_FFFF_FFFF_FFFF, Some(-0.0)),
+    (0x8000_0000_0000_0000, Some(0.0)),
+    (0x8000_0000_0000_0001, Some(LEAST_SUBNORMAL)),
+    (0x800F_FFFF_FFFF_FFFF, Some(GREATEST_SUBNORMAL)),
+    (0x8010_0000_0000_0000, Some(f64::MIN_POSITIVE)),
+    (0xBFF0_0000_0000_0000, Some(1.0)),
+    (0xFFEF_FFFF_FFFF_FFFF, Some(f64::MAX)),
+    (0xFFF0_0000_0000_0000, None),
+    (0xFFF0_0000_0000_0001, None),
+    (0xFFF8_0000_0000_0000, None),
+    (0xFFFF_FFFF_FFFF_FFFF, None),
+];
+
+/// Zero and negative zero are equal as doubles: bits are compared.
+#[test]
+fn doubles_and_their_stored_forms() {
+    for (stored, double) in DOUBLES {
+        let bytes = stored.to_be_bytes();
+        let numbers = double.map(|double| [calls::NUMBER, double.to_bits(), 0, 0]);
+        for code in [codes::CURRENCY, codes::NUMBER] {
+            let cell = read(code, &bytes).map(calls::pack_cell);
+            assert_eq!(cell, numbers.ok_or(Refusal::Meaningless), "{stored:016x}");
+            if let Some(double) = double {
+                let again = written(code, 8, Value::Double(double));
+                assert_eq!(again, Ok(bytes.to_vec()));
+            }
+        }
+    }
+    assert_eq!(read(codes::NUMBER, &[0; 8]), Ok(Cell::Blank));
 }
 
 #[test]

@@ -48,6 +48,14 @@ fn the_example_of_the_paper() {
     assert_eq!(listing(&sample("example.db")), expected.as_bytes());
 }
 
+/// A tide below the mark: a negative number.
+#[test]
+fn negative_number() {
+    let listed = String::from_utf8(listing(&sample("tides.db"))).expect("text");
+    let metres = format!("{:016x}", (-0.15_f64).to_bits());
+    assert!(listed.ends_with(&format!("|{metres}|slipway\n")));
+}
+
 #[test]
 fn no_number() {
     let listed = String::from_utf8(listing(&sample("number.db"))).expect("text");

@@ -1,20 +1,21 @@
--- Laws of a double's bits: which of them are finite, and which double has a stored form. Assumes nothing.
+-- Laws of a double's bits: which of them are finite, and that they tell what the double is. Assumes nothing.
 use mathlib.Core.Path.{_≡_, refl, sym, ap, _∙_, subst}
 use mathlib.Core.Bool.{Bool, true, false, not, cond, true≢false}
-use Prim.Native.Nat.{ℕ, zero, suc, _+_, _-_, _*_, _/_, _%_, _^_, _≤_, _<_}
-use native.Mathlib.Nat.{zero-mul, zero-div}
+use Prim.Native.Nat.{ℕ, zero, suc, _+_, _/_, _%_, _≤_, _<_}
 use native.Mathlib.Omega.{arith}
 use lib.Dec.{T, eqb, leb, ltb}
-use lib.Ieee.{Float, nan, inf, fin, odd, ofFields, ofBits, toBits, nanBits, isNan, fits, ne, size, up, down, binary64}
+use lib.Ieee.{Float, nan, inf, fin, odd, ofFields, ofBits, toBits, nanBits, isNan, fits, ne, binary64}
 use lib.Ieee.Compare.{differs-from-itself}
-use lib.Ieee.Bits.{ofBits-toBits}
+use lib.Ieee.Bits.{ofBits-toBits, toBits-lt}
 use lib.Ieee.Scale.{finite}
-use borrow.Author.Tests.{eq-eqb, ne-eqb, eqb-true, ltb-true, ltb-false}
-use Rattle.words.specs.Numbers.{digits}
-use Rattle.words.specs.Signed.{complemented}
-use Rattle.cell.specs.Writing.{minusZero, numberForm, none, bytes}
+use borrow.Author.Tests.{eq-eqb, ne-eqb, ltb-true, ltb-false}
+use Rattle.words.specs.Signed.{half}
 
 -- ---- which bits are finite
+
+-- those of infinity
+abbrev pub infinityBits : ℕ
+infinityBits = 0x7FF0000000000000
 
 odd-finite : (d : ℕ) (s : Bool) (q k l : ℕ) → finite (odd d s q k l) ≡ true
 unfolding odd
@@ -36,39 +37,36 @@ fields-not s (suc x) t h = rw (eq-eqb (suc x) 2047 h) (last (eqb t 0))
     last true = refl
     last false = refl
 
-finite-below : (b : ℕ) → b % 9223372036854775808 < 9218868437227405312 → finite (ofBits binary64 b) ≡ true
+pub finite-below : (b : ℕ) → b % half 8 < infinityBits → finite (ofBits binary64 b) ≡ true
 unfolding ofBits
 finite-below b h =
-    fields-finite (leb 9223372036854775808 b) (b % 9223372036854775808 / 4503599627370496) (b % 4503599627370496)
+    fields-finite (leb (half 8) b) (b % half 8 / 4503599627370496) (b % 4503599627370496)
     (omega arith)
 
-finite-from : (b : ℕ) → 9218868437227405312 ≤ b % 9223372036854775808 → finite (ofBits binary64 b) ≡ false
+pub finite-from : (b : ℕ) → infinityBits ≤ b % half 8 → finite (ofBits binary64 b) ≡ false
 unfolding ofBits
 finite-from b h =
-    fields-not (leb 9223372036854775808 b) (b % 9223372036854775808 / 4503599627370496) (b % 4503599627370496)
+    fields-not (leb (half 8) b) (b % half 8 / 4503599627370496) (b % 4503599627370496)
     (omega arith)
 
 -- without the sign, finite bits are those below 7FF0 and six zero bytes
-pub finite-is : (b : ℕ) → ltb (b % 9223372036854775808) 9218868437227405312 ≡ finite (ofBits binary64 b)
-finite-is b = go (ltb (b % 9223372036854775808) 9218868437227405312) refl
+pub finite-is : (b : ℕ) → ltb (b % half 8) infinityBits ≡ finite (ofBits binary64 b)
+finite-is b = go (ltb (b % half 8) infinityBits) refl
   where
-    go : (t : Bool) → ltb (b % 9223372036854775808) 9218868437227405312 ≡ t → t ≡ finite (ofBits binary64 b)
-    go true e = sym (finite-below b (ltb-true (b % 9223372036854775808) 9218868437227405312 e))
-    go false e = sym (finite-from b (ltb-false (b % 9223372036854775808) 9218868437227405312 e))
+    go : (t : Bool) → ltb (b % half 8) infinityBits ≡ t → t ≡ finite (ofBits binary64 b)
+    go true e = sym (finite-below b (ltb-true (b % half 8) infinityBits e))
+    go false e = sym (finite-from b (ltb-false (b % half 8) infinityBits e))
 
 -- finite bits are no not-a-number's
 pub finite-bits : (b : ℕ) → finite (ofBits binary64 b) ≡ true → T (not (nanBits binary64 b))
 unfolding nanBits
 finite-bits b f =
-    let h = ltb-true (b % 9223372036854775808) 9218868437227405312 (finite-is b ∙ f) in
-    rw (ne-eqb (b % 9223372036854775808 / 4503599627370496) 2047 (omega arith)) tt
+    let h = ltb-true (b % half 8) infinityBits (finite-is b ∙ f) in
+    rw (ne-eqb (b % half 8 / 4503599627370496) 2047 (omega arith)) tt
 
--- ---- the stored form of a double
-
--- a not-a-number is what differs from itself
-pub nan-form : (x : Float) → ne x x ≡ true → none ≡ numberForm 8 x
-unfolding numberForm
-nan-form x h = rw (differs-from-itself x (subst T (sym h) tt))
+-- a not-a-number is what differs from itself, and is not finite
+pub nan-infinite : (x : Float) → ne x x ≡ true → finite x ≡ false
+nan-infinite x h = rw (differs-from-itself x (subst T (sym h) tt))
 
 pub not-nan : (x : Float) → ne x x ≡ false → T (not (isNan x))
 unfolding isNan ne
@@ -83,40 +81,16 @@ finite-number nan e = true≢false (sym e)
 finite-number (inf s) e = tt
 finite-number (fin s m e) h = tt
 
-zero-bits : (n : ℕ) → n ≡ 0
-    → 9223372036854775808 + (size n - 53) * 4503599627370496 + n / 2 ^ (size n - 53) ≡ 9223372036854775808
-unfolding size
-zero-bits n e = rw e
-
--- the bits of negative zero
-minus-bits : (x : Float) → minusZero x ≡ true → toBits binary64 x ≡ 9223372036854775808
-unfolding minusZero toBits
-minus-bits nan h = absurd (true≢false (sym h))
-minus-bits (inf s) h = absurd (true≢false (sym h))
-minus-bits (fin false m e) h = absurd (true≢false (sym h))
-minus-bits (fin true m e) h =
-    zero-bits (m * up e * 2 ^ 1074 / down e) (rw (eqb-true m 0 h, zero-mul) (zero-div (down e)))
+-- ---- a double and its bits
 
 module _ (x : Float) (f : fits binary64 x ≡ true) where
-  back : ofBits binary64 (toBits binary64 x) ≡ x
-  back = ofBits-toBits binary64 x (subst T (sym f) tt)
+  -- a double of the format is that of its bits
+  pub of-bits : ofBits binary64 (toBits binary64 x) ≡ x
+  of-bits = ofBits-toBits binary64 x (subst T (sym f) tt)
 
-  pub infinite-form : finite (ofBits binary64 (toBits binary64 x)) ≡ false → none ≡ numberForm 8 x
-  unfolding numberForm
-  infinite-form h = rw (ap finite (sym back) ∙ h)
+  -- so its bits tell whether it is finite
+  pub finite-by-bits : (b : Bool) → b ≡ finite (ofBits binary64 (toBits binary64 x)) → finite x ≡ b
+  finite-by-bits b h = ap finite (sym of-bits) ∙ sym h
 
-  not-minus : (toBits binary64 x ≡ 9223372036854775808 → ⊥) → minusZero x ≡ false
-  not-minus h = go (minusZero x) refl
-    where
-      go : (t : Bool) → minusZero x ≡ t → t ≡ false
-      go true e = absurd (h (minus-bits x e))
-      go false e = refl
-
-  pub zero-form : toBits binary64 x ≡ 9223372036854775808 → none ≡ numberForm 8 x
-  unfolding numberForm minusZero ofBits
-  zero-form h = rw (sym back ∙ ap (ofBits binary64) h)
-
-  pub number-is : finite (ofBits binary64 (toBits binary64 x)) ≡ true → (toBits binary64 x ≡ 9223372036854775808 → ⊥)
-      → bytes (digits 8 (complemented 9223372036854775808 (toBits binary64 x))) ≡ numberForm 8 x
-  unfolding numberForm
-  number-is h z = rw (ap finite (sym back) ∙ h, not-minus z)
+  pub bits-small : toBits binary64 x < half 8 + half 8
+  bits-small = toBits-lt binary64 x (subst T (sym f) tt)

@@ -1,21 +1,20 @@
 -- No number that isn't finite gets through: none is read, none is written, and a cell that stores one is refused with
--- 11, by its bytes and by block, place and field. Assumes nothing.
+-- 11, by its bytes and by block, place and field, zeros apart, which are blank. Every finite one is read and written.
+-- Assumes nothing.
 use mathlib.Core.Path.{_≡_, refl, sym, ap, _∙_}
-use mathlib.Core.Bool.{Bool, true, false, cond, not, _&&_, true≢false}
+use mathlib.Core.Bool.{Bool, true, false, cond, _&&_, true≢false}
 use borrow.Author.Tests.{eqb-true}
-use mathlib.Core.List.{List}
+use mathlib.Core.List.{List, _++_}
 use mathlib.Core.Logic.{⊎-elim}
-use Prim.Native.Nat.{ℕ, _%_, _≤_}
+use Prim.Native.Nat.{ℕ, _≤_}
 use native.Mathlib.Omega.{arith}
-use lib.Dec.{ltb}
-use lib.ListN.{length}
-use lib.Ieee.{Float}
+use lib.Dec.{leb}
+use lib.ListN.{length, drop}
+use lib.Ieee.{Float, nan, ofBits, ofFields}
 use lib.Ieee.Scale.{finite}
-use Rattle.words.specs.Numbers.{big, digits}
-use Rattle.words.specs.Signed.{half, complemented}
+use Rattle.words.specs.Numbers.{Bytes, big, digits}
 use Rattle.words.specs.Zeros.{allZero, beforeZero}
-use Rattle.words.proofs.Conjunctions.{both}
-use Rattle.words.proofs.SignedLaws.{complemented-below}
+use Rattle.words.proofs.NumberLaws.{big-lt}
 use Rattle.words.proofs.ZeroLaws.{zero-number}
 use Rattle.header.specs.Refusals.{noMeaning}
 use Rattle.header.specs.Kinds.{kindOf, isBlob, Permitted}
@@ -26,17 +25,18 @@ use Rattle.header.specs.declared.Header.{Header}
 use Rattle.header.specs.Header.{headerRefusal}
 use Rattle.header.specs.Numbers.{numbersOf}
 use Rattle.cell.specs.Values.{nothing, blank, number, contentOf, answerOf}
+use Rattle.cell.specs.Doubles.{meantBits, doubleOf, storedDouble}
 use Rattle.cell.specs.Locating.{BothSteps}
 use Rattle.cell.specs.Reading.{signedAt, doubleAt, numberCell, valueAt, cellAt, cellOf, readOf, Stands}
-use Rattle.cell.specs.Writing.{none, bytes, minusZero, numberForm, formOf, ofKind, putForm, writeOf}
+use Rattle.cell.specs.Writing.{bytes, numberForm, formOf, ofKind, putForm, writeOf}
 use Rattle.cell.specs.declared.value.Value.the-variants as Val
 use Rattle.cell.specs.declared.value.Cell.the-variants.{Is, Refused}
 use Rattle.cell.proofs.ReadingLaws.{no-cell, cell-blank, cell-value, block-cell, cell-accepted}
 use Rattle.cell.proofs.PlaceLaws.{stands}
-use Rattle.cell.proofs.DoubleLaws.{finite-is}
+use Rattle.cell.proofs.StoredLaws.{leastStored, mostStored, finite-stored, finite-form, infinite-form}
 use Rattle.cell.proofs.WritingLaws.{write-form}
 use Rattle.cell.proofs.Inverse.{no-form, read-date, read-number, read-logical, read-text}
-use Rattle.cell.proofs.RoundTrip.{read-as, wrote}
+use Rattle.cell.proofs.RoundTrip.{read-as, wrote, write-is, meaningless-form}
 
 module _ (x : Float) where
   -- by the kind: the other kinds read as other cases
@@ -83,14 +83,11 @@ module _ (x : Float) where
   read-finite t b p f e = stands-finite t (numbersOf t) b p f (stands t b p f (Val.Number x) e)
 
   form-finite : (w : ℕ) (s : List ℕ) → numberForm w x ≡ bytes s → finite x ≡ true
-  unfolding numberForm
-  form-finite w s h = go (finite x && not (minusZero x)) refl h
+  form-finite w s h = go (finite x) refl
     where
-      go : (t : Bool) → (finite x && not (minusZero x)) ≡ t
-          → cond t (bytes (digits w (complemented (half w) (lib.Ieee.toBits lib.Ieee.binary64 x)))) none ≡ bytes s
-          → finite x ≡ true
-      go true e k = both {a = finite x} {b = not (minusZero x)} e .0
-      go false e k = no-form k
+      go : (t : Bool) → finite x ≡ t → t ≡ true
+      go true e = refl
+      go false e = no-form (sym (infinite-form w x e) ∙ h)
 
   -- a number that is written is finite
   pub written-finite : (code w : ℕ) (buffer out : List ℕ) → writeOf code w (number x) buffer ≡ (0, out)
@@ -98,24 +95,39 @@ module _ (x : Float) where
   unfolding formOf
   written-finite code w buffer out h = let r = wrote code w (number x) buffer out h in form-finite w (r .1) (r .6)
 
--- zeros are negative zero's bytes with the top bit complemented, which is finite
-zeros-finite : (s : List ℕ) (at w : ℕ) → w ≡ 8 → allZero s at w ≡ true → finite (doubleAt s at w) ≡ true
-zeros-finite s at w e z =
+-- zeros would be a not-a-number
+pub zeros-nan : (s : List ℕ) (at w : ℕ) → Permitted Kin.Number w → allZero s at w ≡ true → doubleAt s at w ≡ nan
+unfolding Permitted doubleOf meantBits ofBits ofFields
+zeros-nan s at w p z =
     let n : big s at w ≡ 0 = eqb-true (big s at w) 0 (sym (zero-number s at w) ∙ z) in
-    rw (n, e) (sym (finite-is (complemented (half 8) 0)) ∙ low)
-  where
-    low : ltb (complemented (half 8) 0 % 9223372036854775808) 9218868437227405312 ≡ true
-    low = rw (complemented-below (half 8) 0 (omega arith))
+    rw (n, p)
 
--- a number cell that stores no finite number is refused with 11
-pub infinite-refused : (s : List ℕ) (at w : ℕ) → Permitted Kin.Number w → finite (doubleAt s at w) ≡ false
-    → cellAt Kin.Number s at w ≡ Refused noMeaning
-unfolding Permitted valueAt numberCell
-infinite-refused s at w p f = go (allZero s at w) refl
-  where
-    go : (z : Bool) → allZero s at w ≡ z → cellAt Kin.Number s at w ≡ Refused noMeaning
-    go true z = absurd (true≢false (sym (zeros-finite s at w p z) ∙ f))
-    go false z = sym (cell-value Kin.Number s at w z) ∙ rw f
+-- a number cell by its bytes
+module _ (s : List ℕ) (at w : ℕ) where
+  -- a finite number that they mean is read: the blank hides none
+  pub finite-cell : Permitted Kin.Number w → finite (doubleAt s at w) ≡ true
+      → cellAt Kin.Number s at w ≡ Is (Val.Number (doubleAt s at w))
+  unfolding valueAt numberCell
+  finite-cell p f = go (allZero s at w) refl
+    where
+      go : (z : Bool) → allZero s at w ≡ z → cellAt Kin.Number s at w ≡ Is (Val.Number (doubleAt s at w))
+      go true z = absurd (true≢false (sym f ∙ ap finite (zeros-nan s at w p z)))
+      go false z = sym (cell-value Kin.Number s at w z) ∙ rw f
+
+  -- another number is refused with 11, zeros apart
+  pub infinite-refused : allZero s at w ≡ false → finite (doubleAt s at w) ≡ false
+      → cellAt Kin.Number s at w ≡ Refused noMeaning
+  unfolding valueAt numberCell
+  infinite-refused z f = sym (cell-value Kin.Number s at w z) ∙ rw f
+
+  -- so the number of the bytes tells all: blank, a number from the least that is stored to the greatest, or 11
+  pub number-range : Permitted Kin.Number w → Bytes s
+      → cellAt Kin.Number s at w
+      ≡ cond (allZero s at w) (Is Val.Blank)
+      (cond (leb leastStored (big s at w) && leb (big s at w) mostStored) (Is (Val.Number (doubleAt s at w)))
+      (Refused noMeaning))
+  unfolding Permitted cellAt valueAt numberCell isBlob
+  number-range p b = rw (p, finite-stored (big s at 8) (big-lt s at 8 b))
 
 -- a number cell by block, place and field of a table whose header keeps rules 1 to 7
 module _ (t : List ℕ) (b p f width at : ℕ) (kept : headerRefusal t ≡ 0)
@@ -128,15 +140,14 @@ module _ (t : List ℕ) (b p f width at : ℕ) (kept : headerRefusal t ≡ 0)
   -- bytes that are no finite number's are refused with 11; blank comes first, so they are not to be all zero
   pub infinite-cell : allZero t at width ≡ false → finite (doubleAt t at width) ≡ false
       → cellOf t b p f ≡ Refused noMeaning
-  unfolding valueAt numberCell
-  infinite-cell z i = sym (cell-value Kin.Number t at width z ∙ found) ∙ rw i
+  infinite-cell z i = sym found ∙ infinite-refused t at width z i
 
   pub infinite-read : allZero t at width ≡ false → finite (doubleAt t at width) ≡ false
       → readOf t b p f ≡ (noMeaning, nothing)
   unfolding readOf answerOf
   infinite-read z i = ap (answerOf t) (infinite-cell z i)
 
-  -- bytes that are all zero are the blank, whatever double they are
+  -- bytes that are all zero are the blank, whatever double they would mean
   pub zeros-cell : allZero t at width ≡ true → cellOf t b p f ≡ Is Val.Blank
   unfolding isBlob
   zeros-cell z = sym (cell-blank Kin.Number t at width refl z ∙ found)
@@ -145,10 +156,28 @@ module _ (t : List ℕ) (b p f width at : ℕ) (kept : headerRefusal t ≡ 0)
   unfolding readOf answerOf contentOf
   zeros-read z = ap (answerOf t) (zeros-cell z)
 
--- a number that isn't finite is not written: 11, and the buffer as it was
-pub infinite-unwritten : (x : Float) (code w : ℕ) (buffer : List ℕ) → kindOf code w ≡ Kind Kin.Number
-    → w ≤ length buffer → finite x ≡ false
-    → writeOf code w (number x) buffer ≡ (noMeaning, buffer)
-unfolding isBlob ofKind formOf numberForm putForm
-infinite-unwritten x code w buffer k room f =
-    sym (write-form code w (number x) buffer Kin.Number k refl refl room) ∙ rw f
+-- ---- written: every finite number, and no other
+
+module _ (x : Float) (code w : ℕ) (buffer : List ℕ) where
+  module _ (k : kindOf code w ≡ Kind Kin.Number) (room : w ≤ length buffer) where
+    -- a finite number always has a stored form, negative zero too
+    pub finite-written : finite x ≡ true
+        → writeOf code w (number x) buffer ≡ (0, digits w (storedDouble w x) ++ drop w buffer)
+    unfolding isBlob ofKind formOf
+    finite-written f =
+        write-is code Kin.Number w (number x) (digits w (storedDouble w x)) buffer k refl refl room (finite-form w x f)
+
+    -- a number that isn't finite is not written: 11, and the buffer as it was
+    pub infinite-unwritten : finite x ≡ false → writeOf code w (number x) buffer ≡ (noMeaning, buffer)
+    unfolding isBlob ofKind formOf putForm
+    infinite-unwritten f =
+        sym (write-form code w (number x) buffer Kin.Number k refl refl room) ∙ rw (infinite-form w x f)
+
+  -- 11 for a number that is offered means that it isn't finite
+  pub meaningless-infinite : (out : List ℕ) → writeOf code w (number x) buffer ≡ (noMeaning, out) → finite x ≡ false
+  unfolding formOf
+  meaningless-infinite out h = go (finite x) refl
+    where
+      go : (t : Bool) → finite x ≡ t → t ≡ false
+      go true e = no-form (sym (meaningless-form code w (number x) buffer out h) ∙ finite-form w x e)
+      go false e = refl

@@ -1,20 +1,19 @@
 -- Kind by kind, the bytes of a value and the meaning of bytes undo each other: a number is read from the digits it is
 -- written as. Assumes nothing.
 use mathlib.Core.Path.{_≡_, refl, sym, ap, _∙_, subst}
-use mathlib.Core.Bool.{Bool, true, false, not, cond, _&&_, true≢false}
+use mathlib.Core.Bool.{Bool, true, false, cond, _&&_, true≢false}
 use mathlib.Core.List.{List, _++_, append-assoc}
 use mathlib.Core.Logic.{⊎-elim}
 use Prim.Native.Nat.{ℕ, suc, _+_, _-_, _^_, _≤_, _<_}
 use native.Mathlib.Nat.{add-zero, zero-add, sub-zero}
 use native.Mathlib.Omega.{arith}
-use lib.Dec.{T, eqb, leb, ltb}
+use lib.Dec.{eqb, leb, ltb}
 use lib.IntN.{ℤ, pos, negsuc}
-use lib.Ieee.{Float, fits, ofBits, toBits, binary64}
+use lib.Ieee.{Float, fits, binary64}
 use lib.Ieee.Scale.{finite}
-use lib.Ieee.Bits.{ofBits-toBits, ofBits-fits, toBits-ofBits, toBits-lt, nanBits-is, is-true}
 use lib.ListN.{length, take, replicate, length-append}
 use lib.Seq.{take-append-seam}
-use borrow.Author.Tests.{lt-ltb, le-leb, eq-eqb, ltb-true, leb-true, eqb-true, eqb-false, ne-eqb}
+use borrow.Author.Tests.{lt-ltb, le-leb, eq-eqb, ltb-true, leb-true, eqb-true, ne-eqb}
 use Rattle.words.specs.Numbers.{byte, digits}
 use Rattle.words.specs.Signed.{half, complemented, signed}
 use Rattle.words.specs.Zeros.{allZero, beforeZero}
@@ -25,10 +24,10 @@ use Rattle.words.proofs.Ranges.{range-length, range-byte, range-join}
 use Rattle.words.proofs.ZeroLaws.{Nonzero, before-nonzero, before-most, before-whole, zero-range, zeros-behind}
 use Rattle.words.proofs.ZeroLaws.{before-zeros, none-zero}
 use Rattle.words.proofs.Cases.{lt-or-ge}
-use Rattle.words.proofs.SignedLaws.{half-twice, complemented-lt, complemented-twice, complemented-some}
-use Rattle.words.proofs.SignedLaws.{complemented-other, less-below, less-from, signed-complemented}
+use Rattle.words.proofs.SignedLaws.{half-twice, less-below, less-from, signed-complemented}
 use Rattle.header.specs.Refusals.{noMeaning}
 use Rattle.cell.specs.Values.{Content, text, contentOf, answerOf}
+use Rattle.cell.specs.Doubles.{doubleOf, storedDouble}
 use Rattle.cell.specs.Reading.{falseByte, trueByte, leastDate, mostDate, isDate, dateCell, numberCell}
 use Rattle.cell.specs.Reading.{logicalCell, textWith}
 use Rattle.cell.specs.Writing.{none, bytes, noZero, signedForm, dateForm, numberForm, logicalByte, textForm}
@@ -36,7 +35,8 @@ use Rattle.cell.specs.declared.value.Value.{Value}
 use Rattle.cell.specs.declared.value.Value.the-variants as Val
 use Rattle.cell.specs.declared.value.Cell.the-variants.{Is, Refused}
 use Rattle.cell.proofs.ReadingLaws.{no-cell}
-use Rattle.cell.proofs.DoubleLaws.{finite-bits, infinite-form, zero-form, number-is}
+use Rattle.cell.proofs.StoredLaws.{finite-form, infinite-form, stored-of-double, double-of-stored}
+use Rattle.cell.proofs.StoredLaws.{stored-wide, stored-no-blank}
 
 -- no form is not bytes
 pub no-form : {X : Type 0} {s : List ℕ} → none ≡ bytes s → X
@@ -147,52 +147,23 @@ read-number x v h = go (finite x) refl h
     go true e k = (cc, e)
     go false e k = no-cell k
 
--- a number above 0 whose double is finite is the form of that double
-pub number-form : (n : ℕ) → 0 < n → n < 256 ^ 8 → finite (ofBits binary64 (complemented (half 8) n)) ≡ true
-    → numberForm 8 (ofBits binary64 (complemented (half 8) n)) ≡ bytes (digits 8 n)
-number-form n p h f =
-    sym (number-is x held (rw bits f) (λ e. complemented-other (half 8) n p h (sym bits ∙ e)))
-    ∙ ap (λ (m : ℕ). bytes (digits 8 m)) (ap (complemented (half 8)) bits ∙ complemented-twice (half 8) n h)
-  where
-    b : ℕ
-    b = complemented (half 8) n
-
-    x : Float
-    x = ofBits binary64 b
-
-    held : fits binary64 x ≡ true
-    held = is-true (fits binary64 x) (ofBits-fits binary64 b)
-
-    bits : toBits binary64 x ≡ b
-    bits =
-        toBits-ofBits binary64 b (complemented-lt (half 8) n h)
-        (subst (λ (t : Bool). T (not t)) (nanBits-is binary64 b) (finite-bits b f))
+-- a number whose double is finite is the form of that double
+pub number-form : (n : ℕ) → n < 256 ^ 8 → finite (doubleOf 8 n) ≡ true
+    → numberForm 8 (doubleOf 8 n) ≡ bytes (digits 8 n)
+number-form n h f =
+    finite-form 8 (doubleOf 8 n) f ∙ ap (λ (m : ℕ). bytes (digits 8 m)) (stored-of-double n h f)
 
 -- a double of the format that has a form is what the form's number means
 pub number-means : (x : Float) (s : List ℕ) → fits binary64 x ≡ true → numberForm 8 x ≡ bytes s
-    → Numbered 8 s (λ n. numberCell (ofBits binary64 (complemented (half 8) n)) ≡ Is (Val.Number x))
+    → Numbered 8 s (λ n. numberCell (doubleOf 8 n) ≡ Is (Val.Number x))
 unfolding numberCell
-number-means x s f h = go (finite (ofBits binary64 (toBits binary64 x))) (eqb (toBits binary64 x) (half 8)) refl refl
+number-means x s f h = go (finite x) refl
   where
-    small : toBits binary64 x < half 8 + half 8
-    small = toBits-lt binary64 x (subst T (sym f) tt)
-
-    same : ofBits binary64 (toBits binary64 x) ≡ x
-    same = ofBits-toBits binary64 x (subst T (sym f) tt)
-
-    go : (a b : Bool) → finite (ofBits binary64 (toBits binary64 x)) ≡ a → eqb (toBits binary64 x) (half 8) ≡ b
-        → Numbered 8 s (λ n. numberCell (ofBits binary64 (complemented (half 8) n)) ≡ Is (Val.Number x))
-    go false b p q = no-form (infinite-form x f p ∙ h)
-    go true true p q = no-form (zero-form x f (eqb-true (toBits binary64 x) (half 8) q) ∙ h)
-    go true false p q =
-        let z : toBits binary64 x ≡ half 8 → ⊥ = eqb-false (toBits binary64 x) (half 8) q in
-        let e : bytes (digits 8 (complemented (half 8) (toBits binary64 x))) ≡ bytes s = number-is x f p z ∙ h in (
-          complemented (half 8) (toBits binary64 x),
-          complemented-some (half 8) (toBits binary64 x) (omega arith) z,
-          complemented-lt (half 8) (toBits binary64 x) small,
-          cc,
-          rw (complemented-twice (half 8) (toBits binary64 x) small, same, ap finite (sym same) ∙ p),
-        )
+    go : (t : Bool) → finite x ≡ t → Numbered 8 s (λ n. numberCell (doubleOf 8 n) ≡ Is (Val.Number x))
+    go false e = no-form (sym (infinite-form 8 x e) ∙ h)
+    go true e =
+        let q : bytes (digits 8 (storedDouble 8 x)) ≡ bytes s = sym (finite-form 8 x e) ∙ h in
+        (storedDouble 8 x, stored-no-blank x f e, stored-wide x f, cc, rw (double-of-stored x f, e))
 
 -- ---- logicals
 

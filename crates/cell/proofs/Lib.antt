@@ -12,6 +12,7 @@ pub mod RefusalLaws
 pub mod RoundTrip
 pub mod SameLaws
 pub mod SignedCasts
+pub mod StoredLaws
 pub mod TableRoundTrip
 pub mod ValueKinds
 pub mod Vectors

@@ -6,7 +6,6 @@ use Prim.Native.Nat.{ℕ, _+_, _-_, _^_, _≤_, _<_}
 use native.Mathlib.Omega.{arith}
 use borrow.Author.Tests.{le-leb, lt-leb}
 use lib.IntN.{pos}
-use lib.Ieee.{binary64, ofBits}
 use Rattle.words.specs.Numbers.{Bytes, big}
 use Rattle.words.specs.Signed.{half, complemented, signed}
 use Rattle.words.specs.Zeros.{allZero, beforeZero}
@@ -26,6 +25,7 @@ use Rattle.header.proofs.VerdictLaws.{unless-kept}
 use Rattle.header.proofs.AcceptedLaws.{read-numbers, first-kept, first-refused}
 use Rattle.blocks.specs.Shape.{shapeOf}
 use Rattle.cell.specs.Values.{answerOf}
+use Rattle.cell.specs.Doubles.{doubleOf}
 use Rattle.cell.specs.Locating.{fieldAt, placeAt}
 use Rattle.cell.specs.Reading.{leastDate, mostDate, dateCell, numberCell, logicalCell, textWith, valueAt, cellAt}
 use Rattle.cell.specs.Reading.{placeCell, fieldCell, blockCell, cellOf, readOf}
@@ -134,12 +134,10 @@ module _ (s : List ℕ) (at w : ℕ) (z : allZero s at w ≡ false) where
       ∙ cell-value Kin.Long s at w z)
 
   pub cell-number : Permitted Kin.Number w → (n : ℕ) → n ≡ big s at 8
-      → numberCell (ofBits binary64 (complemented (half 8) n)) ≡ cellAt Kin.Number s at w
+      → numberCell (doubleOf 8 n) ≡ cellAt Kin.Number s at w
   unfolding Permitted valueAt
   cell-number p n f =
-      rw f
-      (ap (λ (v : ℕ). numberCell (ofBits binary64 (complemented (half v) (big s at v)))) (sym p)
-      ∙ cell-value Kin.Number s at w z)
+      rw f (ap (λ (v : ℕ). numberCell (doubleOf v (big s at v))) (sym p) ∙ cell-value Kin.Number s at w z)
 
   pub cell-logical : Permitted Kin.Logical w → (n : ℕ) → n ≡ big s at 1 → logicalCell n ≡ cellAt Kin.Logical s at w
   unfolding Permitted valueAt

@@ -11,14 +11,12 @@ use denote.Enum.Declared.{row}
 use mir.Val.{Val as Machine}
 use lib.Dec.{leb, ltb}
 use lib.IntN.{ℤ, pos, negsuc}
-use lib.Ieee.{fits, binary64, ofBits, toBits}
-use lib.Ieee.Bits.{ofBits-fits, is-true}
 use lib.Ieee.Scale.{finite}
 use lib.ListN.{length, drop, replicate, length-append, length-replicate}
 use lib.Seq.{drop-at, length-front, length-take-le}
 use borrow.Author.Tests.{leb-true, ne-eqb, eqb-false}
 use Rattle.words.specs.Numbers.{Bytes, big, digits}
-use Rattle.words.specs.Signed.{half, complemented}
+use Rattle.words.specs.Signed.{half}
 use Rattle.words.specs.Zeros.{allZero, beforeZero}
 use Rattle.words.specs.Order.{range}
 use Rattle.words.proofs.DigitLaws.{digits-length, big-digits, digits-big}
@@ -33,14 +31,16 @@ use Rattle.header.specs.declared.kind.StoredKind.the-variants.{Kind, Unknown}
 use Rattle.header.proofs.KindLaws.{kind-width}
 use Rattle.cell.specs.Values.{Held, Content, nothing, blank, short, long, date, number, logical, text, contentOf}
 use Rattle.cell.specs.Values.{answerOf}
+use Rattle.cell.specs.Doubles.{doubleOf, storedDouble}
 use Rattle.cell.specs.Reading.{isDate, signedAt, doubleAt, valueAt, cellAt}
-use Rattle.cell.specs.Writing.{Form, none, bytes, minusZero, signedForm, dateForm, numberForm, logicalByte}
+use Rattle.cell.specs.Writing.{Form, none, bytes, signedForm, dateForm, numberForm, logicalByte}
 use Rattle.cell.specs.Writing.{formOf, ofKind, putForm, putValue, writeKind, writeStored, writeOf, ReadsBack}
 use Rattle.cell.specs.declared.value.Value.{Value}
 use Rattle.cell.specs.declared.value.Value.the-variants as Val
 use Rattle.cell.specs.declared.value.Cell.the-variants.{Is}
 use Rattle.cell.proofs.value.Value.{the-type}
 use Rattle.cell.proofs.ReadingLaws.{no-cell}
+use Rattle.cell.proofs.StoredLaws.{double-fits}
 use Rattle.cell.proofs.ValueKinds.{same-kind}
 use Rattle.cell.proofs.WritingLaws.{write-form}
 use Rattle.cell.proofs.Inverse.{no-form, Numbered, signed-form, signed-means, read-date, date-means, read-number}
@@ -66,8 +66,7 @@ form-length w blank s h = let e : s ≡ replicate w 0 = cc in ap length e ∙ le
 form-length w (short z) s h = signed-length w z s h
 form-length w (long z) s h = signed-length w z s h
 form-length w (date d) s h = digits-form w (d + half w) (isDate d) s h
-form-length w (number x) s h =
-    digits-form w (complemented (half w) (toBits binary64 x)) (finite x && not (minusZero x)) s h
+form-length w (number x) s h = digits-form w (storedDouble w x) (finite x) s h
 form-length w (logical b) s h = digits-form w (logicalByte b) true s h
 form-length w (text t) s h =
     let q = text-means w t s h in
@@ -128,9 +127,10 @@ form-reads kind w (text t) s rest p b h u f =
 
 -- ---- what writing answers
 
--- a refusal, and the buffer as it was
-abbrev Refusal : List ℕ → ℕ × List ℕ → Type 0
-Refusal buffer answer = (n : ℕ) × (answer ≡ (n, buffer)) × (n ≡ 0 → ⊥)
+-- a refusal, and the buffer as it was; 11 is for a value without a form
+abbrev Refusal : ℕ → Content → List ℕ → ℕ × List ℕ → Type 0
+Refusal w c buffer answer =
+    (n : ℕ) × (answer ≡ (n, buffer)) × (n ≡ 0 → ⊥) × (n ≡ noMeaning → formOf w c ≡ none)
 
 -- 0, and a form in front of the rest of the buffer
 abbrev pub Written : ℕ → ℕ → Content → List ℕ → ℕ × List ℕ → Type 0
@@ -139,7 +139,7 @@ Written code w c buffer answer =
     × (w ≤ length buffer) × (formOf w c ≡ bytes s) × (answer ≡ (0, s ++ drop w buffer))
 
 outcome : (code w : ℕ) (c : Content) (buffer : List ℕ)
-    → Refusal buffer (writeOf code w c buffer) ⊎ Written code w c buffer (writeOf code w c buffer)
+    → Refusal w c buffer (writeOf code w c buffer) ⊎ Written code w c buffer (writeOf code w c buffer)
 unfolding writeOf writeStored writeKind putValue putForm
 outcome code w c buffer = by (kindOf code w) refl
   where
@@ -147,20 +147,20 @@ outcome code w c buffer = by (kindOf code w) refl
         → ofKind c kind ≡ u → leb w (length buffer) ≡ l → formOf w c ≡ f
         → (let put : ℕ × List ℕ = cond l (putForm w f buffer) (shortBuffer, buffer) in
         let answer : ℕ × List ℕ = cond b (blobCell, buffer) (cond u put (badArgument, buffer)) in
-        Refusal buffer answer ⊎ Written code w c buffer answer)
-    go kind k true u l f p q r e = inl (blobCell, refl, omega arith)
-    go kind k false false l f p q r e = inl (badArgument, refl, omega arith)
-    go kind k false true false f p q r e = inl (shortBuffer, refl, omega arith)
-    go kind k false true true none p q r e = inl (noMeaning, refl, omega arith)
+        Refusal w c buffer answer ⊎ Written code w c buffer answer)
+    go kind k true u l f p q r e = inl (blobCell, refl, omega arith, λ q. absurd (omega arith))
+    go kind k false false l f p q r e = inl (badArgument, refl, omega arith, λ q. absurd (omega arith))
+    go kind k false true false f p q r e = inl (shortBuffer, refl, omega arith, λ q. absurd (omega arith))
+    go kind k false true true none p q r e = inl (noMeaning, refl, omega arith, λ q. e)
     go kind k false true true (bytes s) p q r e = inr (kind, s, k, p, q, leb-true w (length buffer) r, e, refl)
 
     by : (stored : StoredKind) → kindOf code w ≡ stored
-        → Refusal buffer (writeStored stored w c buffer) ⊎ Written code w c buffer (writeStored stored w c buffer)
-    by Unknown k = inl (badArgument, refl, omega arith)
+        → Refusal w c buffer (writeStored stored w c buffer) ⊎ Written code w c buffer (writeStored stored w c buffer)
+    by Unknown k = inl (badArgument, refl, omega arith, λ q. absurd (omega arith))
     by (Kind kind) k = go kind k (isBlob kind) (ofKind c kind) (leb w (length buffer)) (formOf w c) refl refl refl refl
 
 -- the form of a value of the cell's kind is what is written, where the buffer has room
-write-is : (code : ℕ) (kind : FieldKind) (w : ℕ) (c : Content) (s buffer : List ℕ)
+pub write-is : (code : ℕ) (kind : FieldKind) (w : ℕ) (c : Content) (s buffer : List ℕ)
     → kindOf code w ≡ Kind kind → isBlob kind ≡ false → ofKind c kind ≡ true → w ≤ length buffer → formOf w c ≡ bytes s
     → writeOf code w c buffer ≡ (0, s ++ drop w buffer)
 unfolding putForm
@@ -171,7 +171,7 @@ pub refused-unchanged : (code w : ℕ) (c : Content) (buffer : List ℕ) (n : �
     → writeOf code w c buffer ≡ (n, out) → (n ≡ 0 → ⊥) → out ≡ buffer
 refused-unchanged code w c buffer n out h e =
     ⊎-elim
-    (λ (r : Refusal buffer (writeOf code w c buffer)). ap (λ (a : ℕ × List ℕ). a .1) (sym h ∙ r .1))
+    (λ (r : Refusal w c buffer (writeOf code w c buffer)). ap (λ (a : ℕ × List ℕ). a .1) (sym h ∙ r .1))
     (λ (r : Written code w c buffer (writeOf code w c buffer)).
     absurd (e (ap (λ (a : ℕ × List ℕ). a .0) (sym h ∙ r .7))))
     (outcome code w c buffer)
@@ -181,8 +181,20 @@ pub wrote : (code w : ℕ) (c : Content) (buffer out : List ℕ) → writeOf cod
     → Written code w c buffer (0, out)
 wrote code w c buffer out h =
     ⊎-elim
-    (λ (r : Refusal buffer (writeOf code w c buffer)). absurd (r .2 (ap (λ (a : ℕ × List ℕ). a .0) (sym (r .1) ∙ h))))
+    (λ (r : Refusal w c buffer (writeOf code w c buffer)).
+    absurd (r .2 (ap (λ (a : ℕ × List ℕ). a .0) (sym (r .1) ∙ h))))
     (λ (r : Written code w c buffer (writeOf code w c buffer)). rw h at r)
+    (outcome code w c buffer)
+
+-- what an answer of 11 tells
+pub meaningless-form : (code w : ℕ) (c : Content) (buffer out : List ℕ) → writeOf code w c buffer ≡ (noMeaning, out)
+    → formOf w c ≡ none
+meaningless-form code w c buffer out h =
+    ⊎-elim
+    (λ (r : Refusal w c buffer (writeOf code w c buffer)). r .3 (ap (λ (a : ℕ × List ℕ). a .0) (sym (r .1) ∙ h)))
+    (λ (r : Written code w c buffer (writeOf code w c buffer)).
+    let e : 0 ≡ noMeaning = ap (λ (a : ℕ × List ℕ). a .0) (sym (r .7) ∙ h) in
+    absurd (omega arith))
     (outcome code w c buffer)
 
 -- whatever the answer, what stands behind the width is as it was, and the buffer keeps its length
@@ -190,7 +202,7 @@ pub write-rest : (code w : ℕ) (c : Content) (buffer : List ℕ) (n : ℕ) (out
     → writeOf code w c buffer ≡ (n, out) → (drop w out ≡ drop w buffer) × (length out ≡ length buffer)
 write-rest code w c buffer n out h =
     ⊎-elim
-    (λ (r : Refusal buffer (writeOf code w c buffer)).
+    (λ (r : Refusal w c buffer (writeOf code w c buffer)).
     let e : out ≡ buffer = ap (λ (a : ℕ × List ℕ). a .1) (sym h ∙ r .1) in
     rw e (refl, refl))
     (λ (r : Written code w c buffer (writeOf code w c buffer)).
@@ -262,13 +274,11 @@ read-as kind s at w v h = go (isBlob kind) (allZero s at w) refl refl h
     go false false e f k = (e, inr (f, k))
 
 -- the law of doubles at a width known by an equation
-number-wide : (w n : ℕ) → w ≡ 8 → 0 < n → n < 256 ^ w → finite (ofBits binary64 (complemented (half w) n)) ≡ true
-    → numberForm w (ofBits binary64 (complemented (half w) n)) ≡ bytes (digits w n)
+number-wide : (w n : ℕ) → w ≡ 8 → n < 256 ^ w → finite (doubleOf w n) ≡ true
+    → numberForm w (doubleOf w n) ≡ bytes (digits w n)
 number-wide w n e =
     subst
-    (λ (k : ℕ).
-    0 < n → n < 256 ^ k → finite (ofBits binary64 (complemented (half k) n)) ≡ true
-    → numberForm k (ofBits binary64 (complemented (half k) n)) ≡ bytes (digits k n))
+    (λ (k : ℕ). n < 256 ^ k → finite (doubleOf k n) ≡ true → numberForm k (doubleOf k n) ≡ bytes (digits k n))
     (sym e)
     (number-form n)
 
@@ -299,7 +309,7 @@ module _ (s : List ℕ) (at w : ℕ) (b : Bytes s) (room : at + w ≤ length s) 
       rw e (refl, signed-form w (omega arith) (big s at w) (some z) (big-lt s at w b) ∙ whole)
   value-forms Kin.Number v p z h =
       let q = read-number (doubleAt s at w) v h in
-      rw (q .0) (refl, number-wide w (big s at w) p (some z) (big-lt s at w b) (q .1) ∙ whole)
+      rw (q .0) (refl, number-wide w (big s at w) p (big-lt s at w b) (q .1) ∙ whole)
   value-forms Kin.Logical v p z h =
       let q = read-logical (big s at w) v h in
       rw (q .1) (refl, ap (λ (n : ℕ). bytes (digits w n)) (q .2) ∙ whole)
@@ -350,7 +360,7 @@ value-held Kin.Short s at w v h = let e : v ≡ Val.Short (signedAt s at w) = cc
 value-held Kin.Long s at w v h = let e : v ≡ Val.Long (signedAt s at w) = cc in rw e tt
 value-held Kin.Number s at w v h =
     rw (read-number (doubleAt s at w) v h .0)
-    (is-true (fits binary64 (doubleAt s at w)) (ofBits-fits binary64 (complemented (half w) (big s at w))))
+    (double-fits w (big s at w))
 value-held Kin.Logical s at w v h = rw (read-logical (big s at w) v h .1) tt
 value-held Kin.Blob s at w v h = no-cell h
 

@@ -1,4 +1,4 @@
--- Document 01's cells, as one table that antt computes. Assumes nothing.
+-- The worked cells of document 01 and of request 02, as one table that antt computes. Assumes nothing.
 use mathlib.Core.Path.{_≡_, refl}
 use mathlib.Core.Bool.{Bool, true, false, cond}
 use mathlib.Core.List.{List, [], _∷_, _++_, map}
@@ -15,8 +15,9 @@ use Rattle.header.specs.declared.kind.FieldKind.{FieldKind}
 use Rattle.header.specs.declared.kind.FieldKind.the-variants as Kin
 use Rattle.header.specs.declared.kind.StoredKind.the-variants.{Kind}
 use Rattle.cell.specs.Values.{Content, nothing, blank, short, date, number, contentOf, answerOf}
+use Rattle.cell.specs.Doubles.{meantBits, storedBits, doubleOf, storedDouble}
 use Rattle.cell.specs.Reading.{dateCell, numberCell, logicalCell, valueAt, cellAt}
-use Rattle.cell.specs.Writing.{minusZero, signedForm, dateForm, numberForm, formOf, ofKind, putForm, putValue}
+use Rattle.cell.specs.Writing.{signedForm, dateForm, numberForm, formOf, ofKind, putForm, putValue}
 use Rattle.cell.specs.Writing.{writeKind, writeStored, writeOf}
 
 -- a kind, a code of it, the bytes, what they read as, and whether that is written so too
@@ -37,6 +38,10 @@ cells =
     ∷ (Kin.Number, 0x06, 0xBF ∷ 0xF0 ∷ replicate 6 0x00, (0, number (fin false 1 (pos 0))), true)
     ∷ (Kin.Number, 0x06, 0xFF ∷ 0xEF ∷ replicate 6 0xFF, (0, number (fin false (2 ^ 53 - 1) (pos 971))), true)
     ∷ (Kin.Number, 0x06, 0xFF ∷ 0xF0 ∷ replicate 6 0x00, (noMeaning, nothing), false)
+    ∷ (Kin.Number, 0x06, 0x40 ∷ 0x0F ∷ replicate 6 0xFF, (0, number (fin true 1 (pos 0))), true)
+    ∷ (Kin.Number, 0x06, 0x7F ∷ replicate 7 0xFF, (0, number (fin true 0 (pos 0))), true)
+    ∷ (Kin.Number, 0x06, 0x00 ∷ 0x10 ∷ replicate 6 0x00, (0, number (fin true (2 ^ 53 - 1) (pos 971))), true)
+    ∷ (Kin.Number, 0x06, 0x00 ∷ 0x0F ∷ replicate 6 0xFF, (noMeaning, nothing), false)
     ∷ (Kin.Logical, 0x09, 0x82 ∷ [], (noMeaning, nothing), false)
     ∷ []
 
@@ -58,7 +63,7 @@ pub cells-hold :
     (map (λ (r : Row). kindOf (r .1) (length (r .2))) cells ≡ map (λ (r : Row). Kind (r .0)) cells)
     × (map asRead cells ≡ map (λ (r : Row). r .3) cells)
     × (map asWritten (bothWays cells) ≡ map (λ (r : Row). (0, r .2 ++ (0xAA ∷ []))) (bothWays cells))
-unfolding each big digits complemented signed kinds permit kindIn kindOf isBlob contentOf answerOf dateCell numberCell
-    logicalCell valueAt cellAt ofBits toBits minusZero signedForm dateForm numberForm formOf ofKind putForm putValue
-    writeKind writeStored writeOf
+unfolding each big digits complemented signed kinds permit kindIn kindOf isBlob contentOf answerOf dateCell meantBits
+    storedBits doubleOf storedDouble numberCell logicalCell valueAt cellAt ofBits toBits signedForm dateForm numberForm
+    formOf ofKind putForm putValue writeKind writeStored writeOf
 cells-hold = (refl, refl, refl)

@@ -1,5 +1,6 @@
 pub mod Values
 pub mod Locating
+pub mod Doubles
 pub mod Reading
 pub mod Writing
 pub mod Steps

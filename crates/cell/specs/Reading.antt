@@ -6,7 +6,7 @@ use mathlib.Core.List.{List, [], _∷_, _++_}
 use mathlib.Core.Logic.{_⊎_}
 use lib.Dec.{eqb, leb}
 use lib.IntN.{ℤ, pos, negsuc}
-use lib.Ieee.{Float, binary64, ofBits}
+use lib.Ieee.{Float}
 use lib.Ieee.Scale.{finite}
 use Rattle.words.specs.Numbers.{big}
 use Rattle.words.specs.Signed.{half, complemented, signed}
@@ -23,6 +23,7 @@ use Rattle.header.specs.declared.field.Field.the-variants as Fie
 use Rattle.blocks.specs.Shape.{shapeOf}
 use Rattle.blocks.specs.declared.Shape.{Shape}
 use Rattle.cell.specs.Values.{Content, answerOf, partOf}
+use Rattle.cell.specs.Doubles.{doubleOf}
 use Rattle.cell.specs.Locating.{fieldAt, placeAt, placeRefusals, BothSteps, Located}
 use Rattle.cell.specs.declared.value.Value.{Value}
 use Rattle.cell.specs.declared.value.Value.the-variants as Val
@@ -53,9 +54,9 @@ unfoldable pub dateCell : ℤ → Cell
 dateCell (pos d) = cond (isDate d) (Is (Val.Date d)) (Refused noMeaning)
 dateCell (negsuc d) = Refused noMeaning
 
--- number, currency: the number with its top bit complemented is the double's bits
+-- number, currency: the double that the bytes, as one number, mean
 abbrev pub doubleAt : List ℕ → ℕ → ℕ → Float
-doubleAt s at w = ofBits binary64 (complemented (half w) (big s at w))
+doubleAt s at w = doubleOf w (big s at w)
 
 -- number, currency: a double that is not finite has no meaning (11)
 unfoldable pub numberCell : Float → Cell

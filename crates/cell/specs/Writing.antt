@@ -5,12 +5,12 @@ use mathlib.Core.Bool.{Bool, true, false, cond, not, _&&_}
 use mathlib.Core.List.{List, [], _∷_, _++_}
 use lib.Dec.{eqb, leb, ltb}
 use lib.IntN.{ℤ, pos, negsuc}
-use lib.Ieee.{Float, nan, inf, fin, binary64, toBits}
+use lib.Ieee.{Float}
 use lib.Ieee.Scale.{finite}
 use lib.ListN.{length, drop, replicate}
 use Rattle.words.specs.Each.{each}
 use Rattle.words.specs.Numbers.{byte, digits}
-use Rattle.words.specs.Signed.{half, complemented}
+use Rattle.words.specs.Signed.{half}
 use Rattle.header.specs.Refusals.{noMeaning, blobCell, badArgument, shortBuffer}
 use Rattle.header.specs.Kinds.{kindOf, isBlob}
 use Rattle.header.specs.declared.kind.FieldKind.{FieldKind}
@@ -19,6 +19,7 @@ use Rattle.header.specs.declared.kind.StoredKind.{StoredKind}
 use Rattle.header.specs.declared.kind.StoredKind.the-variants.{Kind, Unknown}
 use Rattle.cell.specs.Values.{Content, nothing, blank, short, long, date, number, logical, text, contentOf}
 use Rattle.cell.specs.Values.{answerOf}
+use Rattle.cell.specs.Doubles.{storedDouble}
 use Rattle.cell.specs.Reading.{isDate, falseByte, trueByte, cellAt}
 use Rattle.cell.specs.declared.value.Value.{Value}
 
@@ -39,17 +40,9 @@ signedForm w (negsuc m) = cond (ltb (suc m) (half w)) (bytes (digits w (half w -
 unfoldable pub dateForm : ℕ → ℕ → Form
 dateForm w d = cond (isDate d) (bytes (digits w (d + half w))) none
 
--- whether a double is negative zero, whose bytes would be the blank's
-unfoldable pub minusZero : Float → Bool
-minusZero nan = false
-minusZero (inf s) = false
-minusZero (fin s m e) = s && eqb m 0
-
--- number, currency: the double's bits with the top bit complemented, where it is finite and not negative zero (11
--- else)
+-- number, currency: the number that a double is stored as, where the double is finite (11 else)
 unfoldable pub numberForm : ℕ → Float → Form
-numberForm w x =
-    cond (finite x && not (minusZero x)) (bytes (digits w (complemented (half w) (toBits binary64 x)))) none
+numberForm w x = cond (finite x) (bytes (digits w (storedDouble w x))) none
 
 -- logical: its byte
 abbrev pub logicalByte : Bool → ℕ

@@ -2,11 +2,11 @@
 // Its functions are helpers of `cell::read_in`, `cell_at` also of the crates above, which meet what they require.
 ghost use mathlib.Core.Path.{_≡_};
 ghost use Prim.Native.Nat.{_+_, _≤_, _<_};
-ghost use lib.Ieee.{binary64, ofBits};
 ghost use lib.ListN.{length};
 ghost use Rattle.words.specs.Signed.{complemented, half, signed};
 ghost use Rattle.words.specs.Zeros.{beforeZero};
 ghost use Rattle.header.specs.Kinds.{Permitted};
+ghost use Rattle.cell.specs.Doubles.{doubleOf};
 ghost use Rattle.cell.specs.Reading.{cellAt, dateCell, logicalCell, numberCell, textWith};
 use crate::double;
 use crate::limits;
@@ -51,9 +51,9 @@ fn date_of(n: u64) -> Cell
 
 // A number or currency: finite doubles only.
 fn number_of(n: u64) -> Cell
-    ensures { λ r. ⌜ r ≡ numberCell (ofBits binary64 (complemented (half 8) n)) ⌝ }
+    ensures { λ r. ⌜ r ≡ numberCell (doubleOf 8 n) ⌝ }
 {
-    let bits = double::top_complemented(n);
+    let bits = double::bits_of(n);
     if !double::is_finite(bits) {
         return Cell::Refused(refusal::NO_MEANING);
     }
@@ -85,8 +85,8 @@ fn text_at(t: &[u8], at: usize, width: usize) -> Cell
     Cell::Is(Value::Text { start: at, len })
 }
 
-// The meaning of the `width` bytes at `at`. A helper: its caller has found the cell in the table. The last arm is not
-// reached: blobs are refused first.
+// The meaning of the `width` bytes at `at`. The last arm is not reached: blobs are refused first.
+// A helper of `read_in` and of the crates above, and no call for users: its caller has found the cell in the table.
 pub fn cell_at(t: &[u8], kind: FieldKind, at: usize, width: usize) -> Cell
     requires { ⌜ Permitted kind width × (at + width ≤ length (now t)) ⌝ }
     ensures { λ r. ⌜ r ≡ cellAt kind (now (t .entry)) at width ⌝ }

@@ -48,22 +48,17 @@ pub fn date_form(day: u32) -> Coded
     Coded::Number(d + limits::DATE_TOP)
 }
 
-// A double: finite and not negative zero. A not-a-number is what differs from itself; only of the others
-// are the bits asked for.
+// A double: every finite one. A not-a-number is what differs from itself; only of the others are the bits asked for.
 pub fn number_form(x: f64) -> Coded
     ensures { λ r. ⌜ codedForm 8 r ≡ numberForm 8 x ⌝ }
 {
     if x != x {
         return Coded::None;
     }
-    let bits = f64::to_bits(x);
-    if !double::is_finite(bits) {
+    if !double::is_finite(f64::to_bits(x)) {
         return Coded::None;
     }
-    if bits == limits::NEGATIVE_ZERO {
-        return Coded::None;
-    }
-    Coded::Number(double::top_complemented(bits))
+    Coded::Number(double::stored_of(x))
 }
 
 // A logical always has a form.

@@ -14,8 +14,6 @@ pub const LEAST_SHORT: i16 = -32768;
 
 pub const LEAST_LONG: i32 = -2147483648;
 
-pub const NEGATIVE_ZERO: u64 = NUMBER_TOP;
-
 // The dates that have a meaning, by day number.
 pub const LEAST_DATE: u64 = 36160;
 

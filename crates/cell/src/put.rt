@@ -67,8 +67,8 @@ fn put_text(buffer: &mut [u8], width: usize, text: &[u8], start: usize, len: usi
     refusal::ACCEPTED
 }
 
-// Writes a value of the width that its kind has, where it has a stored form. A helper of `cell::write`,
-// which has judged the kind, the width and the buffer.
+// Writes a value of the width that its kind has, where it has a stored form.
+// A helper of `cell::write` and no call for users: its caller has judged the kind, the width and the buffer.
 pub fn put_value(value: Value, width: usize, text: &[u8], buffer: &mut [u8]) -> u8
     requires { ⌜ width ≤ length (now buffer) ⌝ }
     requires { ⌜ OfWidth (contentOf (now text) value) width ⌝ }

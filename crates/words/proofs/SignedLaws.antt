@@ -4,7 +4,6 @@ use mathlib.Core.Path.{_≡_, sym, ap, _∙_}
 use mathlib.Core.Logic.{⊎-elim}
 use native.Mathlib.Nat.{pow-suc}
 use native.Mathlib.Omega.{arith}
-use lib.Arith.{lt-of-le-ne}
 use lib.IntN.{pos, negsuc, _-ℤ_}
 use borrow.Author.Tests.{lt-ltb, le-ltb, le-leb, lt-leb}
 use Rattle.words.proofs.Cases.{lt-or-ge}
@@ -24,13 +23,6 @@ module _ (top n : ℕ) where
   unfolding complemented
   complemented-below h = rw (lt-leb top n h)
 
-  pub complemented-lt : n < top + top → complemented top n < top + top
-  complemented-lt h =
-      ⊎-elim
-      (λ (l : n < top). rw (complemented-below l) (omega arith))
-      (λ (l : top ≤ n). rw (complemented-from l) (omega arith))
-      (lt-or-ge n top)
-
   pub signed-below : n < top → signed top n ≡ pos n
   unfolding signed
   signed-below h = rw (lt-ltb n top h)
@@ -38,29 +30,6 @@ module _ (top n : ℕ) where
   pub signed-from : top ≤ n → signed top n ≡ negsuc (top + top - suc n)
   unfolding signed
   signed-from h = rw (le-ltb n top h)
-
--- complemented twice is as it was
-pub complemented-twice : (top n : ℕ) → n < top + top → complemented top (complemented top n) ≡ n
-complemented-twice top n h =
-    ⊎-elim
-    (λ (l : n < top). rw (complemented-below top n l, complemented-from top (n + top) (omega arith)) (omega arith))
-    (λ (l : top ≤ n). rw (complemented-from top n l, complemented-below top (n - top) (omega arith)) (omega arith))
-    (lt-or-ge n top)
-
--- complemented, nothing but the top bit alone becomes 0, and nothing but 0 the top bit alone
-pub complemented-some : (top n : ℕ) → 0 < top → (n ≡ top → ⊥) → 0 < complemented top n
-complemented-some top n p h =
-    ⊎-elim
-    (λ (l : n < top). rw (complemented-below top n l) (omega arith))
-    (λ (l : top ≤ n). rw (complemented-from top n l) (let m : top < n = lt-of-le-ne l (λ e. h (sym e)) in omega arith))
-    (lt-or-ge n top)
-
-pub complemented-other : (top n : ℕ) → 0 < n → n < top + top → complemented top n ≡ top → ⊥
-complemented-other top n p h e =
-    ⊎-elim
-    (λ (l : n < top). let f = complemented-below top n l in omega arith)
-    (λ (l : top ≤ n). let f = complemented-from top n l in omega arith)
-    (lt-or-ge n top)
 
 -- ---- the top bit complemented, then signed: the number less that bit
 

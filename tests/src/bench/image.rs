@@ -1,7 +1,7 @@
 //! The tables before they become bytes: full blocks, in a shuffled chain.
 
 use crate::codes;
-use crate::generate::{Shape, StoredField, TableImage, UsedBlock};
+use crate::generate::{stored_double, Shape, StoredField, TableImage, UsedBlock};
 use crate::random::Random;
 
 /// Bytes in the header of each table.
@@ -103,7 +103,7 @@ fn part(random: &mut Random, code: usize) -> Vec<u8> {
     let description = format!("{} {}", random.pick(&words), random.below(1_000_000));
     record.extend(description.bytes());
     record.resize(34, 0);
-    record.extend(stored_double(random.below(90_000) as f64 / 100.0));
+    record.extend(stored_double(random.below(90_000) as f64 / 100.0).to_be_bytes());
     record.extend(stored_short(random.below(500) as u16));
     record.extend(stored_long(728_000 + random.below(2_000) as u32));
     record.push(random.pick(&[0x80, 0x81]));
@@ -117,8 +117,8 @@ fn item(number: u32) -> Vec<u8> {
     record.extend(stored_long(728_000 + number));
     record.extend(stored_short((number % 500) as u16));
     record.extend(stored_long(number * 37));
-    record.extend(stored_double(f64::from(number) / 100.0));
-    record.extend(stored_double(f64::from(number) / 8.0));
+    record.extend(stored_double(f64::from(number) / 100.0).to_be_bytes());
+    record.extend(stored_double(f64::from(number) / 8.0).to_be_bytes());
     record.push(0x80 + (number % 2) as u8);
     record.extend(format!("A-{:02}", number % 100).bytes());
     record.resize(55, 0);
@@ -132,8 +132,4 @@ fn stored_short(number: u16) -> [u8; 2] {
 /// A long, or a day's number.
 fn stored_long(number: u32) -> [u8; 4] {
     (number ^ 1 << 31).to_be_bytes()
-}
-
-fn stored_double(number: f64) -> [u8; 8] {
-    (number.to_bits() ^ 1 << 63).to_be_bytes()
 }

@@ -1,6 +1,6 @@
 //! What a run has seen: how often each call gave each answer.
 
-use crate::calls::{refusal_of, BLANK, IN_MB, IN_NEITHER, IN_TABLE, RECORD, TEXT};
+use crate::calls::{refusal_of, BLANK, IN_MB, IN_NEITHER, IN_TABLE, NUMBER, RECORD, TEXT};
 use crate::mb::{OWN_HEAD, UNIT};
 use std::fmt;
 
@@ -142,10 +142,20 @@ const EVENTS: [(Event, &str); 11] = [
     (Event::SuballocatedBlob, "suballocated blobs"),
 ];
 
-/// What a cell can be, from blank to text.
-const WHAT: [&str; 7] = [
-    "blank", "short", "long", "date", "number", "logical", "text",
+/// What a cell can be: from blank to text, and behind them the numbers with a sign bit.
+const WHAT: [&str; 9] = [
+    "blank",
+    "short",
+    "long",
+    "date",
+    "number",
+    "logical",
+    "text",
+    "negative number",
+    "negative zero",
 ];
+const NEGATIVE_NUMBER: usize = 7;
+const NEGATIVE_ZERO: usize = 8;
 
 /// Counts of a run.
 #[derive(Default)]
@@ -177,8 +187,8 @@ impl Tally {
         self.events[event as usize] += 1;
     }
 
-    /// Counts the answer of a call that is lent numbers or writes a value. The first number says what the
-    /// cell is, or where the blob begins.
+    /// Counts the answer of a call that is lent numbers or writes a value. The first numbers say what the
+    /// cell is and its value, or where the blob begins.
     pub fn count_answer(&mut self, call: Call, answer: u32, numbers: &[u64]) {
         self.count(call, refusal_of(answer.into()));
         match (call, answer) {
@@ -240,11 +250,15 @@ fn block_of_blob(part: &[u64]) -> Event {
     }
 }
 
-/// Counts what a cell is, by the first of its numbers.
+/// Counts what a cell is, by the first two of its numbers.
 fn count_what(counts: &mut [u64; WHAT.len()], numbers: &[u64]) {
-    if let Some(&what @ BLANK..=TEXT) = numbers.first() {
-        counts[(what - BLANK) as usize] += 1;
-    }
+    let row = match *numbers {
+        [NUMBER, value, ..] if value == (-0.0_f64).to_bits() => NEGATIVE_ZERO,
+        [NUMBER, value, ..] if f64::from_bits(value).is_sign_negative() => NEGATIVE_NUMBER,
+        [what @ BLANK..=TEXT, ..] => (what - BLANK) as usize,
+        _ => return,
+    };
+    counts[row] += 1;
 }
 
 impl fmt::Display for Tally {
@@ -266,9 +280,9 @@ impl fmt::Display for Tally {
             self.print_answers(columns, out)?;
         }
         writeln!(out, "In listings 11 and 12 are tables with such cells.\n")?;
-        writeln!(out, "cell           read    written")?;
+        writeln!(out, "{:<15} {:>11} {:>10}", "cell", "read", "written")?;
         for (what, (read, written)) in WHAT.iter().zip(self.read.iter().zip(&self.written)) {
-            writeln!(out, "{what:<7} {read:>11} {written:>10}")?;
+            writeln!(out, "{what:<15} {read:>11} {written:>10}")?;
         }
         Ok(())
     }

@@ -37,13 +37,17 @@ const DAYS: [i64; 9] = [
     u32::MAX as i64,
 ];
 const TRUTHS: [i64; 6] = [0, 1, 0, 1, 2, -1];
-const DOUBLES: [u64; 16] = [
+/// Doubles of either sign: zero, the least and the greatest subnormal one, the least normal one, 1, the
+/// greatest, infinity, and those that are no numbers.
+const DOUBLES: [u64; 20] = [
     0x0000_0000_0000_0000,
     0x8000_0000_0000_0000,
     0x0000_0000_0000_0001,
     0x8000_0000_0000_0001,
     0x000F_FFFF_FFFF_FFFF,
+    0x800F_FFFF_FFFF_FFFF,
     0x0010_0000_0000_0000,
+    0x8010_0000_0000_0000,
     0x3FF0_0000_0000_0000,
     0xBFF0_0000_0000_0000,
     0x7FEF_FFFF_FFFF_FFFF,
@@ -53,6 +57,8 @@ const DOUBLES: [u64; 16] = [
     0x7FF0_0000_0000_0001,
     0xFFF0_0000_0000_0001,
     0x7FF8_0000_0000_0000,
+    0xFFF8_0000_0000_0000,
+    0x7FFF_FFFF_FFFF_FFFF,
     0xFFFF_FFFF_FFFF_FFFF,
 ];
 

@@ -83,7 +83,7 @@ fn write(buffer: &mut Fence, run: &mut Run, written: Written, before: &[u8]) -> 
     buffer.place(before, side);
     let answer = calls::write(written, buffer.lent_mut());
     run.tally
-        .count_answer(Call::Write, expected, &[written.what]);
+        .count_answer(Call::Write, expected, &[written.what, written.value]);
     let lent = [("text", written.text), ("buffer", before)];
     let asked = format_args!("{written:?} into {} bytes: ", before.len());
     run.judge(Call::Write, asked, (answer.into(), expected.into()), &lent);

@@ -5,16 +5,28 @@ use crate::codes::{CURRENCY, DATE, LOGICAL, LONG, NUMBER, SHORT, TEXT};
 use crate::random::Random;
 
 const DAYS: [u32; 5] = [36_159, 36_160, 728_783, 3_652_059, 3_652_060];
-const DOUBLES: [u64; 9] = [
-    0x3FF0_0000_0000_0000,
-    0x8000_0000_0000_0000,
-    0x0000_0000_0000_0000,
-    0x0000_0000_0000_0001,
-    0x7FEF_FFFF_FFFF_FFFF,
+/// Doubles as they are stored, in the order of their bytes: both sides of each limit.
+const STORED_DOUBLES: [u64; 20] = [
+    0x0000_0000_0000_0000, // blank
+    0x0000_0000_0000_0001, // not a number
+    0x0007_FFFF_FFFF_FFFF,
+    0x000F_FFFF_FFFF_FFFE,
+    0x000F_FFFF_FFFF_FFFF, // minus infinity
+    0x0010_0000_0000_0000, // the least number
+    0x400F_FFFF_FFFF_FFFF, // -1
+    0x7FEF_FFFF_FFFF_FFFF, // the last before the subnormal ones
     0x7FF0_0000_0000_0000,
-    0xFFF0_0000_0000_0000,
-    0x7FF8_0000_0000_0000,
-    0xFFF0_0000_0000_0001,
+    0x7FFF_FFFF_FFFF_FFFE,
+    0x7FFF_FFFF_FFFF_FFFF, // negative zero
+    0x8000_0000_0000_0000, // zero
+    0x8000_0000_0000_0001,
+    0x800F_FFFF_FFFF_FFFF, // the last of the subnormal ones
+    0x8010_0000_0000_0000,
+    0xBFF0_0000_0000_0000, // 1
+    0xFFEF_FFFF_FFFF_FFFF, // the greatest number
+    0xFFF0_0000_0000_0000, // infinity
+    0xFFF0_0000_0000_0001, // not a number
+    0xFFFF_FFFF_FFFF_FFFF,
 ];
 
 /// The stored bytes of a random cell.
@@ -33,7 +45,7 @@ fn stored_value(random: &mut Random, code: u8, width: usize) -> Vec<u8> {
         DATE => stored_date(random),
         SHORT => random.word().to_be_bytes().to_vec(),
         LONG => (random.bits() as u32).to_be_bytes().to_vec(),
-        CURRENCY | NUMBER => stored_double(random),
+        CURRENCY | NUMBER => any_stored_double(random).to_be_bytes().to_vec(),
         LOGICAL => vec![random.pick(&[0x80, 0x81, 0x81, 0x80, 0x82, 0x01])],
         _ => random.bytes(width),
     }
@@ -64,11 +76,21 @@ fn stored_date(random: &mut Random) -> Vec<u8> {
     (day ^ 1 << 31).to_be_bytes().to_vec()
 }
 
-fn stored_double(random: &mut Random) -> Vec<u8> {
-    let bits = if random.percent(50) {
-        random.pick(&DOUBLES)
+/// A double at a limit, or a price, at times that of something returned.
+fn any_stored_double(random: &mut Random) -> u64 {
+    if random.percent(50) {
+        return random.pick(&STORED_DOUBLES);
+    }
+    stored_double(random.below(2_000_000) as f64 / 100.0 - 5_000.0)
+}
+
+/// A double as it is stored by request 02 of document 02: one with its sign bit set with all bits complemented,
+/// another with its top bit alone.
+pub fn stored_double(number: f64) -> u64 {
+    let complemented = if number.is_sign_negative() {
+        u64::MAX
     } else {
-        (random.below(2_000_000) as f64 / 100.0 - 5_000.0).to_bits()
+        1 << 63
     };
-    (bits ^ 1 << 63).to_be_bytes().to_vec()
+    number.to_bits() ^ complemented
 }

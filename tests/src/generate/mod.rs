@@ -12,6 +12,7 @@ mod table;
 
 pub use blobs::fill_blobs;
 use cells::stored_cell;
+pub use cells::stored_double;
 pub use image::{TableImage, UsedBlock};
 pub use index::{index_for, tree, IndexImage, IndexShape, Leaf};
 pub use mb::{Entry, MbFile, Stored};

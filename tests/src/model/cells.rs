@@ -1,4 +1,4 @@
-//! The meaning of cells (document 01, "Cells").
+//! The meaning of cells (document 01, "Cells"; doubles by request 02 of document 02).
 
 use super::{Field, Kind, Part, Refusal, Table};
 
@@ -65,9 +65,14 @@ fn long(stored: &[u8]) -> Option<i32> {
     Some((bits ^ 1 << 31) as i32)
 }
 
+/// By request 02 of document 02: a top bit of 1 is cleared; with one of 0 all 64 bits are complemented.
 fn double(stored: &[u8]) -> Option<f64> {
-    let bits = u64::from_be_bytes(stored.try_into().ok()?);
-    Some(f64::from_bits(bits ^ 1 << 63)).filter(|value| value.is_finite())
+    let stored = u64::from_be_bytes(stored.try_into().ok()?);
+    let bits = match stored >> 63 {
+        1 => stored & !(1 << 63),
+        _ => !stored,
+    };
+    Some(f64::from_bits(bits)).filter(|value| value.is_finite())
 }
 
 fn logical(stored: &[u8]) -> Option<bool> {

@@ -1,5 +1,5 @@
-//! A second implementation of document 01 and of request 01 of document 02, written from the papers
-//! and from how their open places are read.
+//! A second implementation of document 01 and of requests 01 and 02 of document 02, written from the
+//! papers and from how their open places are read.
 
 mod blob;
 mod blocks;

@@ -1,4 +1,4 @@
-//! Writing a cell (document 01, "Cells", last paragraph).
+//! Writing a cell (document 01, "Cells", last paragraph; doubles by request 02 of document 02).
 
 use super::cells::{FALSE, FIRST_DAY, LAST_DAY, TRUE};
 use super::{Field, Kind, Refusal};
@@ -72,13 +72,24 @@ fn store(value: Value, cell: &mut [u8]) -> Option<()> {
         Value::Short(number) => put(&(number as u16 ^ 1 << 15).to_be_bytes(), cell),
         Value::Long(number) => put(&(number as u32 ^ 1 << 31).to_be_bytes(), cell),
         Value::Double(number) if !number.is_finite() => None,
-        Value::Double(number) => put(&(number.to_bits() ^ 1 << 63).to_be_bytes(), cell),
+        Value::Double(number) => put(&stored_double(number).to_be_bytes(), cell),
         Value::Logical(false) => put(&[FALSE], cell),
         Value::Logical(true) => put(&[TRUE], cell),
     }
 }
 
-/// Stores bytes and zeros behind them, where they fit and are not those of a blank.
+/// By request 02 of document 02: a sign bit of 0 is set; with one of 1, that of negative zero too, all 64 bits are
+/// complemented. For a finite double this is never the blank's 0.
+fn stored_double(number: f64) -> u64 {
+    let bits = number.to_bits();
+    match bits >> 63 {
+        0 => bits | 1 << 63,
+        _ => !bits,
+    }
+}
+
+/// Stores bytes and zeros behind them, where they fit and are not those of a blank. The least short,
+/// the least long and an empty text have no others.
 fn put(stored: &[u8], cell: &mut [u8]) -> Option<()> {
     let fits = stored.len() <= cell.len();
     if !fits || stored.iter().all(|&byte| byte == 0) {

@@ -1,7 +1,7 @@
 //! Values in their stored forms, and shapes with real names.
 
 use crate::codes;
-use crate::generate::{Shape, StoredField};
+use crate::generate::{stored_double, Shape, StoredField};
 
 /// The bytes before the first block in files of Paradox.
 const HEADER_SIZE: usize = 2048;
@@ -69,7 +69,7 @@ pub fn short(value: i16) -> Vec<u8> {
 
 /// A number or a currency.
 pub fn number(value: f64) -> Vec<u8> {
-    (value.to_bits() ^ 1 << 63).to_be_bytes().to_vec()
+    stored_double(value).to_be_bytes().to_vec()
 }
 
 /// True or false.
