@@ -385,6 +385,10 @@ static inline size_t paradox_blob_length(const uint64_t *part)
  * a date that needs more than 32, a logical but 0 and 1.
  *
  * With a refusal the buffer is as it was. Bytes behind the width never change.
+ *
+ * Of two shorts, two longs, two dates, or two numbers or currencies, the lesser has the bytes that memcmp puts first; a
+ * blank's come before them all. Equal values have equal bytes, except that those of negative zero come just before
+ * those of zero.
  */
 uint32_t paradox_write(uint64_t code, size_t width, uint64_t what, uint64_t value,
                        const uint8_t *text, size_t text_len, uint8_t *buffer, size_t buffer_len);

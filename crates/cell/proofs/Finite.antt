@@ -3,7 +3,6 @@
 -- Assumes nothing.
 use mathlib.Core.Path.{_≡_, refl, sym, ap, _∙_}
 use mathlib.Core.Bool.{Bool, true, false, cond, _&&_, true≢false}
-use borrow.Author.Tests.{eqb-true}
 use mathlib.Core.List.{List, _++_}
 use mathlib.Core.Logic.{⊎-elim}
 use Prim.Native.Nat.{ℕ, _≤_}
@@ -15,7 +14,7 @@ use lib.Ieee.Scale.{finite}
 use Rattle.words.specs.Numbers.{Bytes, big, digits}
 use Rattle.words.specs.Zeros.{allZero, beforeZero}
 use Rattle.words.proofs.NumberLaws.{big-lt}
-use Rattle.words.proofs.ZeroLaws.{zero-number}
+use Rattle.words.proofs.ZeroLaws.{zeros-number}
 use Rattle.header.specs.Refusals.{noMeaning}
 use Rattle.header.specs.Kinds.{kindOf, isBlob, Permitted}
 use Rattle.header.specs.declared.kind.StoredKind.the-variants.{Kind}
@@ -31,7 +30,7 @@ use Rattle.cell.specs.Reading.{signedAt, doubleAt, numberCell, valueAt, 
 use Rattle.cell.specs.Writing.{bytes, numberForm, formOf, ofKind, putForm, writeOf}
 use Rattle.cell.specs.declared.value.Value.the-variants as Val
 use Rattle.cell.specs.declared.value.Cell.the-variants.{Is, Refused}
-use Rattle.cell.proofs.ReadingLaws.{no-cell, cell-blank, cell-value, block-cell, cell-accepted}
+use Rattle.cell.proofs.ReadingLaws.{no-cell, cell-blank, cell-value, steps-cell}
 use Rattle.cell.proofs.PlaceLaws.{stands}
 use Rattle.cell.proofs.StoredLaws.{leastStored, mostStored, finite-stored, finite-form, infinite-form}
 use Rattle.cell.proofs.WritingLaws.{write-form}
@@ -99,8 +98,7 @@ module _ (x : Float) where
 pub zeros-nan : (s : List ℕ) (at w : ℕ) → Permitted Kin.Number w → allZero s at w ≡ true → doubleAt s at w ≡ nan
 unfolding Permitted doubleOf meantBits ofBits ofFields
 zeros-nan s at w p z =
-    let n : big s at w ≡ 0 = eqb-true (big s at w) 0 (sym (zero-number s at w) ∙ z) in
-    rw (n, p)
+    rw (zeros-number s at w z, p)
 
 -- a number cell by its bytes
 module _ (s : List ℕ) (at w : ℕ) where
@@ -133,9 +131,7 @@ module _ (s : List ℕ) (at w : ℕ) where
 module _ (t : List ℕ) (b p f width at : ℕ) (kept : headerRefusal t ≡ 0)
     (c : BothSteps t (numbersOf t) b p f Kin.Number width at) where
   found : cellAt Kin.Number t at width ≡ cellOf t b p f
-  found =
-      block-cell t (numbersOf t) b p f Kin.Number width (c .offset) (c .field) at (c .place)
-      ∙ cell-accepted t b p f kept
+  found = steps-cell t b p f kept Kin.Number width at c
 
   -- bytes that are no finite number's are refused with 11; blank comes first, so they are not to be all zero
   pub infinite-cell : allZero t at width ≡ false → finite (doubleAt t at width) ≡ false

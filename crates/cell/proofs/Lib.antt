@@ -1,11 +1,17 @@
+pub mod AmountLaws
 pub mod AnswerLaws
 pub mod ApartLaws
 pub mod BlobLaws
+pub mod BytesOrder
+pub mod CellOrder
 pub mod CopyLaws
 pub mod DoubleLaws
+pub mod DoubleOrder
+pub mod ExactLaws
 pub mod Finite
 pub mod Inverse
 pub mod LocatingLaws
+pub mod OldRule
 pub mod PlaceLaws
 pub mod ReadingLaws
 pub mod RefusalLaws
@@ -14,6 +20,7 @@ pub mod SameLaws
 pub mod SignedCasts
 pub mod StoredLaws
 pub mod TableRoundTrip
+pub mod UnbrokenLaws
 pub mod ValueKinds
 pub mod Vectors
 pub mod WritingLaws

@@ -26,7 +26,7 @@ use Rattle.header.proofs.AcceptedLaws.{read-numbers, first-kept, first-refused}
 use Rattle.blocks.specs.Shape.{shapeOf}
 use Rattle.cell.specs.Values.{answerOf}
 use Rattle.cell.specs.Doubles.{doubleOf}
-use Rattle.cell.specs.Locating.{fieldAt, placeAt}
+use Rattle.cell.specs.Locating.{fieldAt, placeAt, BothSteps}
 use Rattle.cell.specs.Reading.{leastDate, mostDate, dateCell, numberCell, logicalCell, textWith, valueAt, cellAt}
 use Rattle.cell.specs.Reading.{placeCell, fieldCell, blockCell, cellOf, readOf}
 use Rattle.cell.specs.declared.value.Value.{Value}
@@ -164,6 +164,12 @@ module _ (t : List ℕ) (b p f : ℕ) where
   pub cell-accepted : headerRefusal t ≡ 0 → blockCell t (numbersOf t) b p f ≡ cellOf t b p f
   unfolding cellOf headerFirst
   cell-accepted e = sym (unless-kept (headerRefusal t) Refused (blockCell t (numbersOf t) b p f) e)
+
+  -- a cell that both steps find means what its bytes mean
+  pub steps-cell : headerRefusal t ≡ 0 → (kind : FieldKind) (width at : ℕ)
+      → BothSteps t (numbersOf t) b p f kind width at → cellAt kind t at width ≡ cellOf t b p f
+  steps-cell kept kind width at c =
+      block-cell t (numbersOf t) b p f kind width (c .offset) (c .field) at (c .place) ∙ cell-accepted kept
 
   -- of a header that was read as r
   module _ (r : HeaderAnswer) (read : r ≡ headerAnswer t) where

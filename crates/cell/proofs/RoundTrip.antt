@@ -14,14 +14,14 @@ use lib.IntN.{ℤ, pos, negsuc}
 use lib.Ieee.Scale.{finite}
 use lib.ListN.{length, drop, replicate, length-append, length-replicate}
 use lib.Seq.{drop-at, length-front, length-take-le}
-use borrow.Author.Tests.{leb-true, ne-eqb, eqb-false}
+use borrow.Author.Tests.{leb-true, ne-eqb}
 use Rattle.words.specs.Numbers.{Bytes, big, digits}
 use Rattle.words.specs.Signed.{half}
 use Rattle.words.specs.Zeros.{allZero, beforeZero}
 use Rattle.words.specs.Order.{range}
 use Rattle.words.proofs.DigitLaws.{digits-length, big-digits, digits-big}
 use Rattle.words.proofs.NumberLaws.{big-lt}
-use Rattle.words.proofs.ZeroLaws.{zero-number, zero-range, zeros-behind}
+use Rattle.words.proofs.ZeroLaws.{zero-number, some-number, zero-range, zeros-behind}
 use Rattle.header.specs.Refusals.{noMeaning, blobCell, badArgument, shortBuffer}
 use Rattle.header.specs.Kinds.{kindOf, isBlob, Permitted}
 use Rattle.header.specs.declared.kind.FieldKind.{FieldKind}
@@ -287,9 +287,6 @@ module _ (s : List ℕ) (at w : ℕ) (b : Bytes s) (room : at + w ≤ length s) 
   whole : bytes (digits w (big s at w)) ≡ bytes (range s at w)
   whole = ap bytes (digits-big s at w b room)
 
-  some : allZero s at w ≡ false → 0 < big s at w
-  some z = let n : big s at w ≡ 0 → ⊥ = eqb-false (big s at w) 0 (sym (zero-number s at w) ∙ z) in omega arith
-
   value-forms : (kind : FieldKind) (v : Value) → Permitted kind w → allZero s at w ≡ false → valueAt kind s at w ≡ Is v
       → (ofKind (contentOf s v) kind ≡ true) × (formOf w (contentOf s v) ≡ bytes (range s at w))
   unfolding valueAt Permitted ofKind formOf contentOf
@@ -300,13 +297,13 @@ module _ (s : List ℕ) (at w : ℕ) (b : Bytes s) (room : at + w ≤ length s) 
   value-forms Kin.Date v p z h =
       let q = read-date (signedAt s at w) v h in
       let e = subst (λ (k : ℕ). dateForm k (q .0) ≡ signedForm k (signedAt s at w)) (sym p) (q .2) in
-      rw (q .1) (refl, e ∙ signed-form w (omega arith) (big s at w) (some z) (big-lt s at w b) ∙ whole)
+      rw (q .1) (refl, e ∙ signed-form w (omega arith) (big s at w) (some-number s at w z) (big-lt s at w b) ∙ whole)
   value-forms Kin.Short v p z h =
       let e : v ≡ Val.Short (signedAt s at w) = cc in
-      rw e (refl, signed-form w (omega arith) (big s at w) (some z) (big-lt s at w b) ∙ whole)
+      rw e (refl, signed-form w (omega arith) (big s at w) (some-number s at w z) (big-lt s at w b) ∙ whole)
   value-forms Kin.Long v p z h =
       let e : v ≡ Val.Long (signedAt s at w) = cc in
-      rw e (refl, signed-form w (omega arith) (big s at w) (some z) (big-lt s at w b) ∙ whole)
+      rw e (refl, signed-form w (omega arith) (big s at w) (some-number s at w z) (big-lt s at w b) ∙ whole)
   value-forms Kin.Number v p z h =
       let q = read-number (doubleAt s at w) v h in
       rw (q .0) (refl, number-wide w (big s at w) p (big-lt s at w b) (q .1) ∙ whole)

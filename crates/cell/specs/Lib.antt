@@ -3,4 +3,5 @@ pub mod Locating
 pub mod Doubles
 pub mod Reading
 pub mod Writing
+pub mod Amounts
 pub mod Steps

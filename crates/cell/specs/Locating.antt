@@ -1,16 +1,17 @@
 -- Where a cell stands, in two steps: first block and field, then count and place. What its bytes mean comes after. Both
 -- steps are defined for any bytes, given the numbers of a header. Definitions only.
-use Prim.Native.Nat.{ℕ, _+_, _-_, _*_, _≤_, _<_}
+use Prim.Native.Nat.{ℕ, _+_, _-_, _≤_, _<_}
 use mathlib.Core.Path.{_≡_}
 use mathlib.Core.Bool.{cond}
 use mathlib.Core.List.{List, [], _∷_}
 use lib.Dec.{ltb}
 use lib.ListN.{length}
+use Rattle.words.specs.Order.{range}
 use Rattle.header.specs.Refusals.{wrongCount, badArgument}
 use Rattle.header.specs.Kinds.{kindOf, Permitted}
 use Rattle.header.specs.Header.{blockHead}
 use Rattle.header.specs.Fields.{codeAt, widthAt, widthSum}
-use Rattle.header.specs.Numbers.{fieldOf}
+use Rattle.header.specs.Numbers.{fieldOf, numbersOf}
 use Rattle.header.specs.declared.Header.{Header}
 use Rattle.header.specs.declared.kind.FieldKind.{FieldKind}
 use Rattle.header.specs.declared.kind.StoredKind.the-variants.{Kind}
@@ -76,6 +77,23 @@ pub record InBlock (t : List ℕ) (h : Header) (b p f width at : ℕ) : Type 0 w
   pub behind-head : blockAt (shapeOf h) b + blockHead ≤ at
   pub block-end : at + width ≤ blockAt (shapeOf h) b + h .«block_size»
   pub behind-key : h .«key_fields» < f → recordAt (shapeOf h) b p + h .«key_length» ≤ at
+
+-- ---- a cell of a table, by the numbers of its header
+
+-- the code and the width of field f (from 1), as its table stores them
+abbrev pub fieldCode : List ℕ → ℕ → ℕ
+fieldCode t f = codeAt t (numbersOf t .area) (f - 1)
+
+abbrev pub fieldWidth : List ℕ → ℕ → ℕ
+fieldWidth t f = widthAt t (numbersOf t .area) (f - 1)
+
+-- where the cell at a block, a place and a field begins: behind the fields before it in its record
+abbrev pub cellStart : List ℕ → ℕ → ℕ → ℕ → ℕ
+cellStart t b p f = recordAt (shapeOf (numbersOf t)) b p + widthSum t (numbersOf t .area) (f - 1)
+
+-- the bytes of that cell
+abbrev pub cellBytes : List ℕ → ℕ → ℕ → ℕ → List ℕ
+cellBytes t b p f = range t (cellStart t b p f) (fieldWidth t f)
 
 -- ---- two tables
 

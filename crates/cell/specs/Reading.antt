@@ -135,9 +135,13 @@ pub record Stands (t : List ℕ) (h : Header) (b p f : ℕ) (v : Value) : Type 0
 
 -- ---- what an answer tells of the cell
 
+-- the cell has a meaning: the answer is a value
+abbrev pub HasMeaning : Cell → Type 0
+HasMeaning c = (v : Value) × (c ≡ Is v)
+
 -- an answer by a cell's bytes: a value, or 11
 abbrev pub ByBytes : Cell → Type 0
-ByBytes c = ((v : Value) × (c ≡ Is v)) ⊎ (c ≡ Refused noMeaning)
+ByBytes c = HasMeaning c ⊎ (c ≡ Refused noMeaning)
 
 -- the table has the cell at a block, place and field, and it is no blob's
 pub record HasCell (t : List ℕ) (h : Header) (b p f : ℕ) : Type 0 where

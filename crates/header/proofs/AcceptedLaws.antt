@@ -263,6 +263,14 @@ module _ (t : List ℕ) (h : Header) (a : Accepted t h) (f : ℕ) (kind : FieldK
       let c = field-bounds t h a f kind width offset d in
       omega (arith, c .starts, a .key-length, sum-mono t (h .area) (h .«key_fields») (f - 1) (omega arith))
 
+  -- a key field ends inside the key
+  pub in-key : f ≤ h .«key_fields» → offset + width ≤ h .«key_length»
+  unfolding widthSum
+  in-key l =
+      let c = field-bounds t h a f kind width offset d in
+      let m = sum-mono t (h .area) (suc (f - 1)) (h .«key_fields») (omega (arith, c .least)) in
+      omega (arith, c .starts, c .wide, a .key-length, m)
+
 -- two fields don't overlap
 module _ (t : List ℕ) (h : Header) (a : Accepted t h) where
   pub fields-apart : (f : ℕ) (kind : FieldKind) (width offset : ℕ) → fieldOf t h f ≡ Is kind width offset

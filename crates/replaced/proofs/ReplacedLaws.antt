@@ -32,11 +32,11 @@ use Rattle.blocks.specs.Counts.{countIn, lastRecord}
 use Rattle.blocks.specs.declared.count.Count.the-variants.{Records}
 use Rattle.blocks.proofs.SameLaws.{count-same}
 use Rattle.cell.specs.Values.{Content, answerOf}
-use Rattle.cell.specs.Locating.{BothSteps, Located, SamePlaces}
+use Rattle.cell.specs.Locating.{fieldCode, fieldWidth, cellStart, BothSteps, Located, SamePlaces}
 use Rattle.cell.specs.Reading.{cellAt, cellOf, readOf, ByBytes, HasCell}
 use Rattle.cell.specs.Writing.{ReadsBack}
 use Rattle.cell.proofs.LocatingLaws.{located}
-use Rattle.cell.proofs.ReadingLaws.{block-cell, cell-accepted}
+use Rattle.cell.proofs.ReadingLaws.{steps-cell}
 use Rattle.cell.proofs.SameLaws.{both-same, cell-of-same, read-same}
 use Rattle.cell.proofs.ApartLaws.{header-apart, head-apart, key-apart, cells-apart}
 use Rattle.cell.proofs.AnswerLaws.{answer-tells}
@@ -48,7 +48,7 @@ use Rattle.chain.proofs.SameLaws.{next-same, previous-same, links-same}
 use Rattle.table.specs.Table.{tableAnswer, tableMarks}
 use Rattle.table.specs.Same.{SameCounts, SameKeys}
 use Rattle.table.proofs.SameLaws.{table-marks-same, table-answer-same}
-use Rattle.replaced.specs.Replaced.{fieldCode, fieldWidth, cellStart, withCell, Other, Replaced}
+use Rattle.replaced.specs.Replaced.{withCell, Other, Replaced}
 
 -- a kind that is no blob's is not Blob
 no-blob : (kind : FieldKind) → kind ≡ Kin.Blob → isBlob kind ≡ false → ⊥
@@ -211,7 +211,6 @@ module _ (t : List ℕ) (b p f : ℕ) (kind : FieldKind) (width at : ℕ) (kept 
   unfolding readOf
   means after room e =
       let now = both-same places-now b p f kind width at here in
-      let found = block-cell u (numbersOf u) b p f kind width (now .offset) (now .field) at (now .place) in
       let inside : at + width ≤ length u = omega (arith, place .inside, long) in
       let part : range u at width ≡ s = rw (← wide) (replace-inside t at s fits) in
       let new : (i : ℕ) → i < width → byte u (at + i) ≡ byte after (0 + i) = λ i l.
@@ -219,7 +218,7 @@ module _ (t : List ℕ) (b p f : ℕ) (kind : FieldKind) (width at : ℕ) (kept 
       ∙ ap (λ (r : List ℕ). byte r i) (part ∙ e)
       ∙ getD-take width after i 0 l
       ∙ ap (byte after) (sym (zero-add i)) in
-      ap (answerOf u) (sym (found ∙ cell-accepted u b p f also))
+      ap (answerOf u) (sym (steps-cell u b p f also kind width at now))
       ∙ cell-same u after at 0 width inside (omega arith) new kind
 
 -- ---- with the bytes of a value that was written

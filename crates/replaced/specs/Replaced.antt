@@ -1,32 +1,20 @@
 -- A cell of a table replaced by a value that was written, said of what the calls answer. Definitions only.
-use Prim.Native.Nat.{ℕ, _+_, _-_, _≤_, _<_}
+use Prim.Native.Nat.{ℕ, _≤_, _<_}
 use mathlib.Core.Path.{_≡_}
 use mathlib.Core.List.{List}
 use lib.ListN.{length, take}
 use Rattle.words.specs.Order.{range}
 use Rattle.words.specs.Replace.{replaceAt}
-use Rattle.header.specs.Fields.{codeAt, widthAt, widthSum}
 use Rattle.header.specs.Header.{blockHead}
 use Rattle.header.specs.Numbers.{numbersOf}
 use Rattle.header.specs.Answers.{headerAnswer}
-use Rattle.blocks.specs.Shape.{shapeOf, blockAt, recordAt}
+use Rattle.blocks.specs.Shape.{shapeOf, blockAt}
 use Rattle.blocks.specs.Counts.{countIn}
 use Rattle.cell.specs.Values.{Content}
 use Rattle.cell.specs.Reading.{cellOf, readOf}
 use Rattle.blob.specs.Blob.{blobOf, blobBytes}
 use Rattle.chain.specs.Links.{linksOf}
 use Rattle.table.specs.Table.{tableAnswer, tableMarks}
-
--- the code and the width of field f (from 1), as its table stores them
-abbrev pub fieldCode : List ℕ → ℕ → ℕ
-fieldCode t f = codeAt t (numbersOf t .area) (f - 1)
-
-abbrev pub fieldWidth : List ℕ → ℕ → ℕ
-fieldWidth t f = widthAt t (numbersOf t .area) (f - 1)
-
--- where the cell at a block, a place and a field begins: behind the fields before it in its record
-abbrev pub cellStart : List ℕ → ℕ → ℕ → ℕ → ℕ
-cellStart t b p f = recordAt (shapeOf (numbersOf t)) b p + widthSum t (numbersOf t .area) (f - 1)
 
 -- a table with the first w bytes of a buffer in the place of its own from an offset on
 abbrev pub withCell : List ℕ → ℕ → ℕ → List ℕ → List ℕ

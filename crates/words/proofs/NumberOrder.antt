@@ -1,18 +1,19 @@
 -- Two ranges of as many bytes compare as their numbers do, high byte first. Assumes nothing.
 use Prim.Native.Nat.{ℕ, zero, suc, _+_, _-_, _≤_, _<_}
 use mathlib.Core.Path.{_≡_, refl, sym, ap, _∙_}
-use mathlib.Core.List.{List, [], _∷_, _++_, append-assoc}
+use mathlib.Core.List.{List, [], _∷_, _++_, append-assoc, append-nil}
 use mathlib.Core.Logic.{⊎-elim}
 use native.Mathlib.Nat.{le-antisymm}
 use native.Mathlib.Omega.{arith}
 use lib.ListN.{length, drop, length-drop}
 use lib.Seq.{take-suc, getD-drop}
-use borrow.Author.Tests.{lt-ltb}
+use borrow.Author.Tests.{lt-ltb, le-ltb}
 use Rattle.words.specs.Numbers.{byte, Bytes, big, digits}
-use Rattle.words.specs.Order.{order, range}
-use Rattle.words.specs.declared.Order.the-variants.{Less, More}
-use Rattle.words.proofs.Cases.{lt-or-ge}
+use Rattle.words.specs.Order.{numberOrder, NotLater, order, range}
+use Rattle.words.specs.declared.Order.the-variants.{Less, Same, More}
+use Rattle.words.proofs.Cases.{compared, lt-or-ge}
 use Rattle.words.proofs.DigitLaws.{digits-big}
+use Rattle.words.proofs.OrderLaws.{less≢same, more≢less, more≢same, not-later-cases, order-refl}
 use Rattle.words.proofs.OrderLaws.{order-rest, order-turned, turned}
 use Rattle.words.proofs.Ranges.{range-join, rest}
 
@@ -57,6 +58,64 @@ module _ (s t : List ℕ) (at to : ℕ) (bytes : Bytes s) (others : Bytes t) whe
       rw (big-equal w (omega arith) (omega arith) e)
       (order-behind (range t to w) (x ∷ xs) (y ∷ ys) ∙ rw (lt-ltb x y below)))
       (lt-or-ge (big s at w) (big t to w)))
+
+-- ---- as many bytes, and nothing behind them
+
+number-less : (m n : ℕ) → numberOrder m n ≡ Less → m < n
+unfolding numberOrder
+number-less m n h =
+    compared m n (λ l. l)
+    (λ e. absurd (less≢same (sym h ∙ rw (e, le-ltb n n (omega arith)))))
+    (λ l. absurd (more≢less (sym (rw (le-ltb m n (omega arith), lt-ltb n m l)) ∙ h)))
+
+number-same : (m n : ℕ) → numberOrder m n ≡ Same → m ≡ n
+unfolding numberOrder
+number-same m n h =
+    compared m n
+    (λ l. absurd (less≢same (sym (rw (lt-ltb m n l)) ∙ h)))
+    (λ e. e)
+    (λ l. absurd (more≢same (sym (rw (le-ltb m n (omega arith), lt-ltb n m l)) ∙ h)))
+
+-- of the lesser number the bytes come earlier
+pub number-earlier : (s t : List ℕ) (at to w : ℕ) → Bytes s → Bytes t → at + w ≤ length s → to + w ≤ length t →
+    big s at w < big t to w → order (range s at w) (range t to w) ≡ Less
+number-earlier s t at to w bytes others k l h =
+    sym (rw (append-nil (range s at w), append-nil (range t to w)))
+    ∙ big-less s t at to bytes others w k l h [] []
+
+module _ (s t : List ℕ) (at to w : ℕ) (bytes : Bytes s) (others : Bytes t) (k : at + w ≤ length s)
+    (l : to + w ≤ length t) where
+  -- two ranges of as many bytes are ordered as their numbers
+  pub big-order : order (range s at w) (range t to w) ≡ numberOrder (big s at w) (big t to w)
+  unfolding numberOrder turned
+  big-order =
+      let m = big s at w in
+      let n = big t to w in
+      compared m n
+      (λ h. rw (lt-ltb m n h) (number-earlier s t at to w bytes others k l h))
+      (λ e. rw (
+        big-equal s t at to bytes others w k l e,
+        e,
+        le-ltb n n (omega arith),
+      ) (order-refl (range t to w)))
+      (λ h. rw (le-ltb m n (omega arith), lt-ltb n m h)
+      (order-turned (range t to w) (range s at w) ∙ ap turned (number-earlier t s to at w others bytes l k h)))
+
+  -- the bytes that come earlier are of the lesser number
+  pub earlier-number : order (range s at w) (range t to w) ≡ Less → big s at w < big t to w
+  earlier-number h = number-less (big s at w) (big t to w) (sym big-order ∙ h)
+
+  -- the same bytes are of the same number
+  pub same-number : range s at w ≡ range t to w → big s at w ≡ big t to w
+  same-number e =
+      number-same (big s at w) (big t to w)
+      (sym big-order ∙ rw e (order-refl (range t to w)))
+
+  -- bytes that are not later are of a number that is not greater
+  pub not-later-number : NotLater (range s at w) (range t to w) → big s at w ≤ big t to w
+  not-later-number h =
+      not-later-cases (range s at w) (range t to w) h (λ o. let m = earlier-number o in omega arith)
+      (λ e. let m = same-number e in omega arith)
 
 -- ---- eight bytes of what is left of two ranges
 

@@ -1,13 +1,14 @@
 -- Byte order is a strict total order: same exactly when equal, antisymmetric, transitive. Assumes nothing.
 use Prim.Native.Nat.{ℕ, _<_}
 use mathlib.Core.Path.{_≡_, refl, sym, ap, _∙_}
-use mathlib.Core.List.{List, [], _∷_}
+use mathlib.Core.List.{List, [], _∷_, _++_}
 use mathlib.Core.Bool.{Bool, true, false, cond, false≢true}
 use native.Mathlib.Nat.{le-antisymm}
 use native.Mathlib.Omega.{arith}
 use lib.Dec.{ltb}
+use lib.ListN.{length}
 use borrow.Author.Tests.{ltb-true, ltb-false, lt-ltb, le-ltb}
-use Rattle.words.specs.Order.{isAtMost, isLess, isSame, order}
+use Rattle.words.specs.Order.{isAtMost, isLess, isSame, NotLater, order}
 use Rattle.words.specs.declared.Order.{Order}
 use Rattle.words.specs.declared.Order.the-variants.{Less, Same, More}
 
@@ -122,6 +123,22 @@ pub above-less : (a b : List ℕ) → isAtMost (order a b) ≡ false → order b
 unfolding turned
 above-less a b e = order-turned a b ∙ ap turned (not-at-most (order a b) e)
 
+-- what holds where a range is less than another, where they are the same and where it is greater, holds
+pub order-cases : {X : Type 0} (a b : List ℕ) → (order a b ≡ Less → X) → (a ≡ b → X) → (order b a ≡ Less → X) → X
+unfolding turned
+order-cases {X} a b less same more = go (order a b) refl
+  where
+    go : (o : Order) → order a b ≡ o → X
+    go Less e = less e
+    go Same e = same (order-same a b e)
+    go More e = more (order-turned a b ∙ ap turned e)
+
+-- so of a range that is not later
+pub not-later-cases : {X : Type 0} (a b : List ℕ) → NotLater a b → (order a b ≡ Less → X) → (a ≡ b → X) → X
+unfolding turned
+not-later-cases a b h less same =
+    order-cases a b less same (λ l. absurd (at-most (order a b) h (order-turned b a ∙ ap turned l)))
+
 pub less-trans : (a b c : List ℕ) → order a b ≡ Less → order b c ≡ Less → order a c ≡ Less
 unfolding order
 less-trans [] [] c p q = absurd (less≢same (sym p))
@@ -141,3 +158,18 @@ less-trans (x ∷ xs) (y ∷ ys) (z ∷ zs) p q = go (less-trans xs ys zs) (firs
     go ih (below l) w (level m) v = rw (lt-ltb x z (omega arith))
     go ih (level l) w (below m) v = rw (lt-ltb x z (omega arith))
     go ih (level l) w (level m) v = rw (l, m) (order-rest z xs zs ∙ ih w v)
+
+-- of two ranges that begin with as many bytes each, the bytes that the lesser begins with are not later
+pub front-not-later : (a b xs ys : List ℕ) → length a ≡ length b → order (a ++ xs) (b ++ ys) ≡ Less → NotLater a b
+unfolding order isAtMost
+front-not-later [] [] xs ys e h = refl
+front-not-later [] (y ∷ b) xs ys e h = absurd (omega arith)
+front-not-later (x ∷ a) [] xs ys e h = absurd (omega arith)
+front-not-later (x ∷ a) (y ∷ b) xs ys e h = go (first x y) h (front-not-later a b xs ys (omega arith))
+  where
+    go : {p q : Bool} → First x y p q → cond p Less (cond q More (order (a ++ xs) (b ++ ys))) ≡ Less →
+        (order (a ++ xs) (b ++ ys) ≡ Less → NotLater a b) →
+        isAtMost (cond p Less (cond q More (order a b))) ≡ true
+    go (below l) w ih = refl
+    go (above l) w ih = absurd (more≢less w)
+    go (level l) w ih = ih w

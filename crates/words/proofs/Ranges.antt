@@ -10,8 +10,9 @@ use lib.ListN.{length, take, drop, length-drop}
 use lib.Seq.{ext-getD, drop-cons, drop-drop, getD-drop, getD-take, length-take-le, take-add}
 use borrow.Author.Tests.{lt-ltb, le-ltb}
 use Rattle.words.specs.Numbers.{byte}
-use Rattle.words.specs.Order.{order, range}
+use Rattle.words.specs.Order.{NotLater, order, range}
 use Rattle.words.specs.declared.Order.the-variants.{Less, More}
+use Rattle.words.proofs.OrderLaws.{front-not-later}
 
 -- ---- one range
 
@@ -36,6 +37,15 @@ range-same s t at to n k l h =
     (λ i m. let b : i < n = rw (← a) m in range-byte s at n i b ∙ h i b ∙ sym (range-byte t to n i b))
 
 -- ---- two ranges
+
+-- of two ranges of n bytes, the first w bytes of the lesser are not later
+pub range-front-not-later : (s t : List ℕ) (at to w n : ℕ) → w ≤ n → at + w ≤ length s → to + w ≤ length t →
+    order (range s at n) (range t to n) ≡ Less → NotLater (range s at w) (range t to w)
+range-front-not-later s t at to w n l j k h =
+    let e : n ≡ w + (n - w) = omega arith in
+    front-not-later (range s at w) (range t to w) (range s (at + w) (n - w)) (range t (to + w) (n - w))
+    (range-length s at w j ∙ sym (range-length t to w k))
+    (rw (← range-join s at w (n - w), ← range-join t to w (n - w), ← e) h)
 
 -- what is left of the n bytes from p after i of them
 abbrev pub rest : List ℕ → ℕ → ℕ → ℕ → List ℕ

@@ -1,10 +1,12 @@
 -- The top bit complemented and read as a sign, each law once over what that bit counts for. Assumes nothing.
 use Prim.Native.Nat.{ℕ, zero, suc, _+_, _-_, _^_, _≤_, _<_}
 use mathlib.Core.Path.{_≡_, sym, ap, _∙_}
+use mathlib.Core.Bool.{true}
 use mathlib.Core.Logic.{⊎-elim}
 use native.Mathlib.Nat.{pow-suc}
 use native.Mathlib.Omega.{arith}
 use lib.IntN.{pos, negsuc, _-ℤ_}
+use lib.Signed.{ltZ}
 use borrow.Author.Tests.{lt-ltb, le-ltb, le-leb, lt-leb}
 use Rattle.words.proofs.Cases.{lt-or-ge}
 use Rattle.words.specs.Signed.{half, complemented, signed}
@@ -49,3 +51,17 @@ signed-complemented top n h =
     (λ (l : top ≤ n). rw (complemented-from top n l, signed-below top (n - top) (omega arith))
     (sym (less-from n top l)))
     (lt-or-ge n top)
+
+-- numbers so read are ordered as they are stored
+pub signed-order : (top m n : ℕ) → m < n → n < top + top →
+    ltZ (signed top (complemented top m)) (signed top (complemented top n)) ≡ true
+signed-order top m n h l =
+    rw (signed-complemented top m (omega arith), signed-complemented top n l)
+    (⊎-elim
+    (λ (b : n < top). rw (less-below m top (omega arith), less-below n top b)
+    (lt-ltb (top - suc n) (top - suc m) (omega arith)))
+    (λ (b : top ≤ n). ⊎-elim
+    (λ (c : m < top). rw (less-below m top c, less-from n top b))
+    (λ (c : top ≤ m). rw (less-from m top c, less-from n top b) (lt-ltb (m - top) (n - top) (omega arith)))
+    (lt-or-ge m top))
+    (lt-or-ge n top))

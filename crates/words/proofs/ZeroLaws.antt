@@ -139,6 +139,20 @@ zero-number s at (suc w) =
     go zero b = let e : 0 * 256 + b ≡ b = omega arith in rw e
     go (suc n) b = rw (ne-eqb (suc n) 0 (omega arith)) (sym (ne-eqb (suc n * 256 + b) 0 (omega arith)))
 
+-- both ways
+module _ (s : List ℕ) (at w : ℕ) where
+  pub zeros-number : allZero s at w ≡ true → big s at w ≡ 0
+  zeros-number z = eqb-true (big s at w) 0 (sym (zero-number s at w) ∙ z)
+
+  pub some-number : allZero s at w ≡ false → 0 < big s at w
+  some-number z = let n = eqb-false (big s at w) 0 (sym (zero-number s at w) ∙ z) in omega arith
+
+  pub number-zeros : big s at w ≡ 0 → allZero s at w ≡ true
+  number-zeros e = zero-number s at w ∙ eq-eqb (big s at w) 0 e
+
+  pub number-some : 0 < big s at w → allZero s at w ≡ false
+  number-some l = zero-number s at w ∙ ne-eqb (big s at w) 0 (omega arith)
+
 -- the same, low byte first, for zeros among others
 pub zero-little : (s : List ℕ) (at n i w : ℕ) → allZero s at n ≡ true → i + w ≤ n → little s (at + i) w ≡ 0
 unfolding little

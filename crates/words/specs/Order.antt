@@ -1,5 +1,6 @@
 -- Byte order of two ranges of bytes. Definitions only.
 use Prim.Native.Nat.{ℕ, _+_}
+use mathlib.Core.Path.{_≡_}
 use mathlib.Core.List.{List, [], _∷_}
 use mathlib.Core.Bool.{Bool, true, false, cond}
 use lib.Dec.{ltb}
@@ -22,6 +23,10 @@ order [] (y ∷ ys) = Less
 order (x ∷ xs) [] = More
 order (x ∷ xs) (y ∷ ys) = cond (ltb x y) Less (cond (ltb y x) More (order xs ys))
 
+-- the order of two numbers
+unfoldable pub numberOrder : ℕ → ℕ → Order
+numberOrder m n = cond (ltb m n) Less (cond (ltb n m) More Same)
+
 -- the first of two ranges is less
 unfoldable pub isLess : Order → Bool
 isLess Less = true
@@ -33,6 +38,10 @@ unfoldable pub isAtMost : Order → Bool
 isAtMost Less = true
 isAtMost Same = true
 isAtMost More = false
+
+-- that of two ranges, as a proposition
+abbrev pub NotLater : List ℕ → List ℕ → Type 0
+NotLater a b = isAtMost (order a b) ≡ true
 
 -- two ranges are the same
 unfoldable pub isSame : Order → Bool

@@ -20,3 +20,4 @@ mod writes;
 
 pub use case::{listed_table, make, Case};
 pub use run::{run, Options};
+pub use values::any_value;

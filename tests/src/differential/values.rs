@@ -115,7 +115,7 @@ fn beyond(random: &mut Random, number: u64) -> u64 {
 }
 
 /// A value: most often one at a limit of its kind, else any number of 8 to 64 bits, or a day.
-fn any_value(random: &mut Random, what: u64) -> u64 {
+pub fn any_value(random: &mut Random, what: u64) -> u64 {
     let bits = random.bits();
     let few = random.pick(&[bits as i8 as i64, bits as i16 as i64, bits as i32 as i64]) as u64;
     let value = match what {
