@@ -30,7 +30,6 @@ static const struct {
     {PARADOX_BLOB_CELL, "the cell is a memo or another blob"},
     {PARADOX_BAD_ARGUMENT, "the table has no key, or a key of another length"},
     {PARADOX_SHORT_BUFFER, "a buffer is too short"},
-    {PARADOX_TOO_MANY_RECORDS, "the table has too many records"},
     {PARADOX_UNFIT_BLOB, "the blob does not fit the MB file"},
     {PARADOX_INDEX_TOO_SHORT, "the index is too short to have a header"},
     {PARADOX_NOT_AN_INDEX, "the file given as the index is not a primary index"},

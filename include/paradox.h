@@ -45,7 +45,6 @@ enum {
     PARADOX_BLOB_CELL = 12,        /* a memo or another blob; only from calls that are not lent an MB file */
     PARADOX_BAD_ARGUMENT = 13,     /* an argument doesn't fit: a block, place, field, key, type, value or cursor */
     PARADOX_SHORT_BUFFER = 14,     /* a lent buffer is too short: fewer marks than blocks, or no room for the answer */
-    PARADOX_TOO_MANY_RECORDS = 16, /* more than 2,147,483,647 records: more than any table has room for */
     PARADOX_UNFIT_BLOB = 18,       /* the MB file has no such blob as the cell says */
 
     /* the index */
@@ -69,7 +68,7 @@ enum {
  * Checks a table. Answers PARADOX_ACCEPTED or the number of the first rule that is broken.
  *
  * The mark buffer has at least one byte for each block. With 1 to 7 and 14 it is as it was. With 8 its first bytes, one
- * for each block, are 0. With 9, 16, 10 and acceptance byte b - 1 is 1 where block b is used and 2 where it is free.
+ * for each block, are 0. With 9, 10 and acceptance byte b - 1 is 1 where block b is used and 2 where it is free.
  * Bytes behind those of the blocks never change.
  */
 uint32_t paradox_table_check(const uint8_t *table, size_t table_len, uint8_t *marks, size_t marks_len);

@@ -4,7 +4,7 @@
 use brittomaz_tests::calls::{cursor_of, IN_MB, RECORD};
 use brittomaz_tests::generate::{tree, IndexShape, Shape, StoredField, TableImage, UsedBlock};
 use brittomaz_tests::layout::{put_word, MOST_BLOCKS, MOST_UNITS, RECORDS};
-use brittomaz_tests::mb::{put_long, OWN, OWN_LENGTH, UNIT, UNITS};
+use brittomaz_tests::mb::{long, put_long, OWN, OWN_LENGTH, UNIT, UNITS};
 use brittomaz_tests::model::{Cursor, Stepped, Table};
 use brittomaz_tests::{calls, codes, model};
 
@@ -44,6 +44,7 @@ fn most_records() {
         records: vec![b'x'; 4090],
     };
     let mut table = largest(1, 0, (1..=MOST_BLOCKS).rev().map(full).collect()).bytes();
+    assert_eq!(long(&table, RECORDS), 134_017_030);
     assert_same_check(&table, 0);
     table[RECORDS] ^= 1;
     assert_same_check(&table, 9);

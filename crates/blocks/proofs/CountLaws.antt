@@ -16,6 +16,7 @@ use Rattle.words.proofs.Conjunctions.{both}
 use Rattle.words.proofs.SignedLaws.{signed-below, signed-from}
 use Rattle.words.specs.Numbers.{word}
 use Rattle.words.specs.Signed.{signed}
+use Rattle.header.specs.Header.{blockHead}
 use Rattle.blocks.specs.Shape.{blockAt, recordAt, Sound, RunInside}
 use Rattle.blocks.specs.Counts.{countOf, countIn}
 use Rattle.blocks.specs.declared.Shape.{Shape}
@@ -93,8 +94,8 @@ module _ (t : List ℕ) (g : Shape) (s : Sound t g) (b n : ℕ) (e : countIn t g
   pub record-in-file : 1 ≤ b → b ≤ g .blocks → (i : ℕ) → i < n → recordAt g b i + g .«record_size» ≤ length t
   record-in-file low high i l = omega (arith, record-inside i l, block-inside t g s b low high)
 
-  -- a block counts no more records than it has bytes
-  pub count-few : n ≤ g .«block_size»
+  -- a block counts no more records than it has bytes behind its head
+  pub count-few : blockHead + n ≤ g .«block_size»
   count-few = omega (arith, records-fit, mul-le-mul-left n (s .size-least))
 
 -- ---- the records that a block counts are inside the file

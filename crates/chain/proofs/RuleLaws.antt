@@ -18,7 +18,7 @@ use Rattle.chain.specs.Marks.{usedMark, freeMark, markOf, marksOf}
 use Rattle.chain.specs.Rules.{Chain, ends, leads, Inside, ChainRules}
 use Rattle.chain.proofs.ListLaws.{every-gives, every-takes, mark-at}
 use Rattle.chain.proofs.MarkLaws.{right-gives, right-takes}
-use Rattle.chain.proofs.SumLaws.{once-length}
+use Rattle.chain.proofs.SumLaws.{once-most, once-length}
 
 -- ---- following next
 
@@ -46,6 +46,10 @@ inside-gives n bs e i l = in-file n (getD bs i 0) (every-gives (inFile n) bs e i
 
 inside-takes : (n : ℕ) (bs : List ℕ) → Inside n bs → every (inFile n) bs ≡ true
 inside-takes n bs h = every-takes (inFile n) bs (λ i l. file-has n (getD bs i 0) (h i l .0) (h i l .1))
+
+-- blocks of the file, none of them twice, are no more than it has
+pub inside-length : (n : ℕ) (bs : List ℕ) → Inside n bs → ((b : ℕ) → times b bs ≤ 1) → length bs ≤ n
+inside-length n bs inside once = once-most n bs (inside-takes n bs inside) (λ i l. once (suc i))
 
 -- a number that is no block's is in no such list
 outside : (n b : ℕ) (bs : List ℕ) → every (inFile n) bs ≡ true → inFile n b ≡ false → times b bs ≡ 0

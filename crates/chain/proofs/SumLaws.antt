@@ -27,6 +27,11 @@ unfolding sum
 sum-ones f zero h = refl
 sum-ones f (suc n) h = omega (arith, sum-ones f n (λ i l. h i (omega arith)), h n (omega arith))
 
+sum-most : (f : ℕ → ℕ) (n : ℕ) → ((i : ℕ) → i < n → f i ≤ 1) → sum f n ≤ n
+unfolding sum
+sum-most f zero h = omega arith
+sum-most f (suc n) h = omega (arith, sum-most f n (λ i l. h i (omega arith)), h n (omega arith))
+
 sum-both : (f g : ℕ → ℕ) (n : ℕ) → sum (λ (i : ℕ). f i + g i) n ≡ sum f n + sum g n
 unfolding sum
 sum-both f g zero = refl
@@ -55,6 +60,11 @@ times-sum n (b ∷ bs) e =
     let p = both {a = inFile n b} {b = every (inFile n) bs} e in
     let q = in-file n b (p .0) in
     sum-both (is b) (λ (i : ℕ). times (suc i) bs) n ∙ rw (sum-is b n (q .0) (q .1), times-sum n bs (p .1)) (omega arith)
+
+-- a list that has no block twice is no longer than there are blocks
+pub once-most : (n : ℕ) (bs : List ℕ) → every (inFile n) bs ≡ true → ((i : ℕ) → i < n → times (suc i) bs ≤ 1) →
+    length bs ≤ n
+once-most n bs e h = omega (arith, sum-most (λ (i : ℕ). times (suc i) bs) n h, times-sum n bs e)
 
 -- two lists that have every block once between them are as long as there are blocks
 pub once-length : (n : ℕ) (us vs : List ℕ) → every (inFile n) us ≡ true → every (inFile n) vs ≡ true

@@ -40,7 +40,7 @@ mostBlocks = 32767
 abbrev pub mostFields : ℕ
 mostFields = 255
 
--- 5, 16: the largest signed 32-bit number; a count above it is below 0
+-- 5: the largest signed 32-bit number; a count above it is below 0
 abbrev pub mostRecords : ℕ
 mostRecords = 2147483647
 

@@ -50,9 +50,6 @@ badArgument = 13
 abbrev pub shortBuffer : ℕ
 shortBuffer = 14
 
-abbrev pub tooManyRecords : ℕ
-tooManyRecords = 16
-
 abbrev pub unfitBlob : ℕ
 unfitBlob = 18
 

@@ -19,7 +19,6 @@ pub use named::Name;
 pub use named::name_in;
 pub use rules::BLOCK_HEAD;
 pub use rules::MOST_BLOCKS;
-pub use rules::MOST_RECORDS;
 pub use rules::MOST_UNITS;
 pub use rules::is_length_right;
 pub use rules::known_version;
@@ -92,8 +91,9 @@ pub fn name(t: &[u8], field: usize) -> &[u8]
 }
 
 // Tries rules 1 to 7 on a file of this length by its front: the header's numbers, or the first broken rule's number,
-// with `short` behind 5 and before 6 where the front ends inside the header. A helper: its caller has at least 120
-// bytes of every file that is so long. Of a whole file `short` is 6, as its length is wrong then.
+// with `short` behind 5 and before 6 where the front ends inside the header. Of a whole file `short` is 6, as its
+// length is wrong then. A helper of `header::read` and for crates above, and no call for users: its caller has at
+// least 120 bytes of every file that is so long.
 pub fn judge(front: &[u8], long: usize, short: u8) -> HeaderAnswer
     requires { ⌜ Front (now front) long short ⌝ }
     ensures { λ r. ⌜ r ≡ frontAnswer short (now (front .entry)) long ⌝ }

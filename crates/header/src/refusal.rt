@@ -31,8 +31,6 @@ pub const BAD_ARGUMENT: u8 = 13;
 
 pub const SHORT_BUFFER: u8 = 14;
 
-pub const TOO_MANY_RECORDS: u8 = 16;
-
 // The MB file has no such blob as the cell says.
 pub const UNFIT_BLOB: u8 = 18;
 

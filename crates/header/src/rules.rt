@@ -17,7 +17,7 @@ const KEYED: u8 = 0;
 const UNKEYED: u8 = 2;
 
 const PLAIN_ORDER: u8 = 0;
-// The limits of rules 1, 3, 5 and 16.
+// The limits of rules 1, 3 and 5.
 pub const LEAST_LENGTH: usize = 120;
 
 const LEAST_HEADER: u16 = 120;
@@ -34,7 +34,7 @@ pub const MOST_BLOCKS: u16 = 32767;
 
 const MOST_FIELDS: u16 = 255;
 
-pub const MOST_RECORDS: u32 = 2147483647;
+const MOST_RECORDS: u32 = 2147483647;
 
 // Rule 2.
 pub fn is_table(s: Stored) -> bool
@@ -50,7 +50,7 @@ pub fn known_version(version: u8) -> bool
     (LEAST_VERSION <= version) & (version <= MOST_VERSION)
 }
 
-// Rule 4, of the four bytes at a place.
+// Rule 4, of the four bytes at a place. A helper of `header::judge` and no call for users: its caller has them there.
 pub fn is_unencrypted(t: &[u8], at: usize) -> bool
     requires { ⌜ at + 4 ≤ length (now t) ⌝ }
     ensures { λ r. ⌜ r ≡ unencrypted (now (t .entry)) at ⌝ }
@@ -95,7 +95,8 @@ pub fn is_length_right(long: usize, header: u16, blocks: u16, units: u8) -> bool
     long == header as usize + blocks as usize * block
 }
 
-// Whether the names begin inside the header: where they don't, rule 7 is broken and no field is read.
+// Whether the names begin inside the header: where they don't, rule 7 is broken and no field is read. A helper of
+// `header::judge` and no call for users: its caller has tried rule 5.
 pub fn has_room(s: Stored) -> bool
     requires { ⌜ s .fields ≤ mostFields ⌝ }
     ensures { λ r. ⌜ r ≡ ltb (namesAt s) (s .«header_size») ⌝ }

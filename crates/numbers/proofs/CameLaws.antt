@@ -1,28 +1,17 @@
 -- A record came, by the answer's number: then a cursor on a record is in front, and comes back from its number. By
 -- this: that number is no refusal's. Assumes nothing.
-use Prim.Native.Nat.{ℕ, suc, _+_, _-_, _/_, _%_, _<_, _≤_}
+use Prim.Native.Nat.{ℕ, _<_}
 use mathlib.Core.Path.{_≡_, refl}
-use mathlib.Core.Bool.{Bool, true, false, cond, _&&_}
 use mathlib.Core.List.{List, [], _∷_, _++_}
-use mathlib.Core.Logic.{⊎-elim}
-use native.Mathlib.Nat.{div-le-self}
 use native.Mathlib.Omega.{arith}
-use lib.Dec.{eqb, leb}
-use lib.IntN.{ℤ, pos, negsuc}
 use lib.ListN.{getD}
-use Rattle.words.specs.Numbers.{word}
-use Rattle.words.specs.Signed.{signed}
-use Rattle.words.proofs.Cases.{lt-or-ge}
-use Rattle.words.proofs.SignedLaws.{signed-below, signed-from}
 use Rattle.header.specs.Refusals.{shortBuffer, oneOf, headerRefusals}
 use Rattle.header.specs.Numbers.{numbersOf}
 use Rattle.header.specs.Rules.{Accepted}
 use Rattle.header.proofs.RefusalLaws.{one-of-not}
-use Rattle.blocks.specs.Shape.{shapeOf, blockAt}
-use Rattle.blocks.specs.Counts.{countOf, countIn, lastRecord}
-use Rattle.blocks.specs.declared.Shape.{Shape}
-use Rattle.blocks.specs.declared.count.Count.the-variants.{Records, Bad}
-use Rattle.blocks.proofs.ShapeLaws.{shape-blocks}
+use Rattle.blocks.specs.Shape.{shapeOf}
+use Rattle.blocks.proofs.ShapeLaws.{shape-blocks, sound}
+use Rattle.blocks.proofs.CountLaws.{count-few}
 use Rattle.cursor.specs.Cursor.{atEnd, startOf, startRefusals, stepOf, stepRefusals}
 use Rattle.cursor.specs.Rules.{OnRecord, Answered, found, refusing}
 use Rattle.cursor.specs.declared.Cursor.{Cursor}
@@ -33,38 +22,6 @@ use Rattle.numbers.specs.Lent.{cleared, roomFirst}
 use Rattle.numbers.specs.Cursor.{cursorIn, came, withCursor, startGiven, startLent, stepGiven, stepLent}
 use Rattle.numbers.proofs.LentLaws.{room-holds}
 use Rattle.numbers.proofs.CursorLaws.{cursor-back}
-
--- ---- a cursor on a record has 16 bits a part
-
--- a signed word is below 32768
-signed-few : (n m : ℕ) → signed 32768 n ≡ pos m → m < 32768
-signed-few n m e =
-    ⊎-elim
-    (λ (l : n < 32768). let z : n ≡ m = cc (signed-below 32768 n l) in omega arith)
-    (λ (l : 32768 ≤ n). let z : _≡_ {A = ℕ} 0 1 = cc (signed-from 32768 n l) in absurd (omega arith))
-    (lt-or-ge n 32768)
-
--- a count by the last record's offset, which is such a word
-count-few : (block size : ℕ) (z : ℤ) (n : ℕ) → ((m : ℕ) → z ≡ pos m → m < 32768) → countOf block size z ≡ Records n →
-    n < 65536
-unfolding countOf
-count-few block size (negsuc d) n h e = go (eqb (suc d) size) e
-  where
-    go : (b : Bool) → cond b (Records 0) Bad ≡ Records n → n < 65536
-    go true f = let z : 0 ≡ n = cc in omega arith
-    go false f = let z : _≡_ {A = ℕ} 0 1 = cc in absurd (omega arith)
-count-few block size (pos m) n h e = go (eqb (m % size) 0 && leb (m + size) (block - 6)) e
-  where
-    go : (b : Bool) → cond b (Records (m / size + 1)) Bad ≡ Records n → n < 65536
-    go true f = let z : m / size + 1 ≡ n = cc in omega (arith, div-le-self m size, h m refl)
-    go false f = let z : _≡_ {A = ℕ} 0 1 = cc in absurd (omega arith)
-
-place-few : (t : List ℕ) (g : Shape) (c : Cursor) → OnRecord t g c → c .place < 65536
-unfolding countIn
-place-few t g c o =
-    let w = word t (blockAt g (c .block) + lastRecord) in
-    let l = count-few (g .«block_size») (g .«record_size») (signed 32768 w) (o .count) (signed-few w) (o .counted) in
-    omega arith
 
 -- ---- a record came
 
@@ -79,6 +36,14 @@ abbrev CameOn : List ℕ → List ℕ → ℕ × List ℕ → Type 0
 CameOn t lent answer = answer .0 ≡ came → InFront t lent (answer .1)
 
 module _ (t lent : List ℕ) (a : Accepted t (numbersOf t)) where
+  -- a cursor on a record has 16 bits a part
+  place-few : (c : Cursor) → OnRecord t (shapeOf (numbersOf t)) c → c .place < 65536
+  unfolding shapeOf
+  place-few c o =
+      let h = numbersOf t in
+      let few = count-few t (shapeOf h) (sound t h a) (c .block) (o .count) (o .counted) in
+      omega (arith, few, o .there, a .block-most)
+
   in-front : (c : Cursor) → OnRecord t (shapeOf (numbersOf t)) c → InFront t lent (withCursor lent c)
   in-front c o =
       let e = shape-blocks (numbersOf t) in
@@ -87,7 +52,7 @@ module _ (t lent : List ℕ) (a : Accepted t (numbersOf t)) where
         on-record = o;
         after = refl;
         back =
-            cursor-back c (omega (arith, a .blocks-most, o .high)) (place-few t (shapeOf (numbersOf t)) c o)
+            cursor-back c (omega (arith, a .blocks-most, o .high)) (place-few c o)
             (omega (arith, a .blocks-most, o .few-moves));
       }
 

@@ -75,7 +75,7 @@ pub record TreeRules (t : List ℕ) (h : Header) (used counts x : List ℕ) (i :
 
 -- the rules of a pair
 pub record PairRules (t x : List ℕ) : Type 0 where
-  -- 1 to 10 and 16
+  -- 1 to 10
   pub table : TableRules t
   -- 13: there are key fields
   pub keyed : 1 ≤ numbersOf t .«key_fields»

@@ -17,20 +17,20 @@ use Rattle.header.proofs.VerdictLaws.{unless-kept, unless-refused}
 use Rattle.header.proofs.AcceptedLaws.{read-numbers, first-kept, first-refused}
 use Rattle.blocks.specs.Shape.{shapeOf}
 use Rattle.chain.specs.Links.{usedOf}
-use Rattle.chain.specs.Marks.{unmarked, marksOf}
-use Rattle.table.specs.Counts.{countsRight, sumFits}
+use Rattle.chain.specs.Marks.{marksOf}
+use Rattle.table.specs.Counts.{countsRight}
 use Rattle.table.specs.Keys.{keysAscend}
-use Rattle.table.specs.Table.{tableChained, rulesAnswer, blocksAnswer, tableAnswer, tableFirst, checkedHeader}
-use Rattle.table.specs.Table.{blockMarks, bufferAfter, tableMarks}
+use Rattle.table.specs.Table.{tableChained, testsAnswer, rulesAnswer, blocksAnswer, tableAnswer, tableFirst}
+use Rattle.table.specs.Table.{checkedHeader, blockMarks, bufferAfter, tableMarks}
 use Rattle.table.specs.Steps.{nothing, addBlock, tallyAnswer}
 use Rattle.table.proofs.TallyLaws.{tally-answer}
 
--- ---- 8, 9, 16, 10
+-- ---- 8, 9, 10
 
 module _ (t : List ℕ) (h : Header) where
   pub chains-refused : tableChained t h ≡ false →
       (chainRule ≡ rulesAnswer t h) × (replicate (h .blocks) 0 ≡ blockMarks t h)
-  unfolding rulesAnswer blockMarks
+  unfolding rulesAnswer testsAnswer blockMarks
   chains-refused e = (rw e, rw e)
 
   pub chains-kept : tableChained t h ≡ true → marksOf (h .blocks) (usedOf t h) ≡ blockMarks t h
@@ -45,7 +45,7 @@ module _ (t : List ℕ) (h : Header) where
   -- the tally of the used blocks answers for the rules
   pub records-answered : Accepted t h → tableChained t h ≡ true →
       tallyAnswer (foldl (addBlock t (shapeOf h) (h .«key_length»)) nothing (usedOf t h)) (h .records) ≡ rulesAnswer t h
-  unfolding rulesAnswer countsRight sumFits keysAscend
+  unfolding rulesAnswer countsRight keysAscend
   records-answered a e =
       tally-answer t (shapeOf h) (h .«key_length») (usedOf t h) (h .«key_fields») (a .key-least) (keyless a)
       (h .records) ∙ rw e

@@ -7,8 +7,10 @@ pub mod UsedLaws
 pub mod ChainsLaws
 pub mod CheckLaws
 pub mod OnceLaws
+pub mod TotalLaws
 pub mod RuleLaws
 pub mod UniqueLaws
 pub mod BufferLaws
 pub mod SameLaws
 pub mod RefusalLaws
+pub mod OldLine

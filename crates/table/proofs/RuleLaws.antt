@@ -9,7 +9,7 @@ use lib.Dec.{eqb, leb}
 use lib.ListN.{length-map}
 use borrow.Author.Tests.{eq-eqb, eqb-true, le-leb, leb-true}
 use Rattle.words.proofs.Conjunctions.{both, join}
-use Rattle.header.specs.Header.{mostRecords, headerRefusal}
+use Rattle.header.specs.Header.{headerRefusal}
 use Rattle.header.specs.Numbers.{numbersWith, numbersIn, numbersOf}
 use Rattle.header.specs.Answers.{headerFirst}
 use Rattle.header.specs.Rules.{Accepted}
@@ -22,9 +22,9 @@ use Rattle.chain.specs.Links.{linksOf, usedOf, freeOf}
 use Rattle.chain.specs.Rules.{ChainRules}
 use Rattle.chain.proofs.RuleLaws.{rules-give, rules-take, rules-length, rules-once, used-is}
 use Rattle.table.specs.Records.{held, recordsHeld, recordsIn}
-use Rattle.table.specs.Counts.{countsGood, sum, total, countsRight, sumFits}
+use Rattle.table.specs.Counts.{countsGood, sum, total, countsRight}
 use Rattle.table.specs.Keys.{keysOf, ascend, keysAscend}
-use Rattle.table.specs.Table.{tableChained, recordsAnswer, rulesAnswer, blocksAnswer, tableAnswer}
+use Rattle.table.specs.Table.{tableChained, testsAnswer, rulesAnswer, blocksAnswer, tableAnswer}
 use Rattle.table.specs.Rules.{Ascending, TableRules, AcceptedTable}
 use Rattle.table.proofs.RecordLaws.{records-total, counts-give, ascend-gives, ascend-takes, ascending-pairs}
 use Rattle.table.proofs.HeldLaws.{countsOf, sum-counts, held-records, holding-gives, holding-good}
@@ -36,21 +36,19 @@ use Rattle.table.proofs.HeldLaws.{holding-counts}
 record Kept (t : List ℕ) (h : Header) : Type 0 where
   chains : tableChained t h ≡ true
   counts : countsRight t h (usedOf t h) ≡ true
-  few : sumFits t h (usedOf t h) ≡ true
   keys : keysAscend t h (usedOf t h) ≡ true
 
 records-give : (t : List ℕ) (h : Header) → rulesAnswer t h ≡ 0 → Kept t h
-unfolding rulesAnswer recordsAnswer
+unfolding rulesAnswer testsAnswer
 records-give t h e =
     let p₁ = kept-of (tableChained t h) 7 _ e in
     let p₂ = kept-of (countsRight t h (usedOf t h)) 8 _ (p₁ .1) in
-    let p₃ = kept-of (sumFits t h (usedOf t h)) 15 _ (p₂ .1) in
-    let p₄ = kept-of (keysAscend t h (usedOf t h)) 9 0 (p₃ .1) in
-    record { chains = p₁ .0; counts = p₂ .0; few = p₃ .0; keys = p₄ .0 }
+    let p₃ = kept-of (keysAscend t h (usedOf t h)) 9 0 (p₂ .1) in
+    record { chains = p₁ .0; counts = p₂ .0; keys = p₃ .0 }
 
 records-take : (t : List ℕ) (h : Header) → Kept t h → rulesAnswer t h ≡ 0
-unfolding rulesAnswer recordsAnswer
-records-take t h k = rw (k .chains, k .counts, k .few, k .keys)
+unfolding rulesAnswer testsAnswer
+records-take t h k = rw (k .chains, k .counts, k .keys)
 
 -- the header's number comes first
 answer-parts : (t : List ℕ) (room : ℕ) → tableAnswer t room ≡ 0 →
@@ -100,7 +98,7 @@ module _ {t : List ℕ} (r : TableRules t) where
 module _ (t : List ℕ) (room : ℕ) where
   -- an accepted table meets the rules
   pub table-gives : tableAnswer t room ≡ 0 → TableRules t
-  unfolding countsRight sumFits
+  unfolding countsRight
   table-gives e =
       let h = numbersOf t in
       let p = answer-parts t room e in
@@ -117,15 +115,12 @@ module _ (t : List ℕ) (room : ℕ) where
         holding = holding-gives t (shapeOf h) (usedOf t h) (c .0);
         counts-sum =
             sum-counts t (shapeOf h) (usedOf t h) ∙ eqb-true (total t (shapeOf h) (usedOf t h)) (h .records) (c .1);
-        few =
-            rw (sum-counts t (shapeOf h) (usedOf t h))
-            (leb-true (total t (shapeOf h) (usedOf t h)) mostRecords (k .few));
         keys = λ l. rw (held-records t (shapeOf h) (usedOf t h)) (keys-give t h (k .keys) l);
       }
 
   -- a table that meets the rules is accepted, where the mark buffer has a byte for each block
   pub table-takes : TableRules t → numbersOf t .blocks ≤ room → tableAnswer t room ≡ 0
-  unfolding tableAnswer headerFirst blocksAnswer countsRight sumFits
+  unfolding tableAnswer headerFirst blocksAnswer countsRight
   table-takes r l =
       let h = numbersOf t in
       let z = accepted-takes t (r .header) in
@@ -139,7 +134,6 @@ module _ (t : List ℕ) (room : ℕ) where
         counts =
             rw u (join (holding-good t (shapeOf h) (record-some r) (r .used) (r .counts) (r .holding))
             (eq-eqb (total t (shapeOf h) (r .used)) (h .records) (s ∙ r .counts-sum)));
-        few = rw (u, s) (le-leb (sum (r .counts)) mostRecords (r .few));
         keys = keys-take t h (λ y. rw (u, ← p) (r .keys y));
       } in
       unless-kept (headerRefusal t) (λ (n : ℕ). n) (blocksAnswer t h room) z

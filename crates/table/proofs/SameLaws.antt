@@ -7,7 +7,7 @@ use native.Mathlib.Nat.{add-zero, zero-add}
 use native.Mathlib.Omega.{arith}
 use lib.Dec.{leb}
 use lib.ListN.{length, replicate, drop}
-use Rattle.header.specs.Refusals.{chainRule, shortBuffer, firstBroken}
+use Rattle.header.specs.Refusals.{shortBuffer, firstBroken}
 use Rattle.header.specs.Header.{headerRefusal}
 use Rattle.header.specs.Numbers.{numbersOf}
 use Rattle.header.specs.Answers.{headerFirst}
@@ -22,9 +22,9 @@ use Rattle.chain.specs.Links.{SameLinks, linksOf, usedOf}
 use Rattle.chain.specs.Marks.{unmarked, marksOf}
 use Rattle.chain.proofs.SameLaws.{links-same, used-same}
 use Rattle.table.specs.Records.{Position, held, placesFrom, recordsIn}
-use Rattle.table.specs.Counts.{total, countsRight, sumFits}
+use Rattle.table.specs.Counts.{total, countsRight}
 use Rattle.table.specs.Keys.{keyAt, keysIn, keysAscend}
-use Rattle.table.specs.Table.{tableChained, recordsAnswer}
+use Rattle.table.specs.Table.{tableChained, testsAnswer}
 use Rattle.table.specs.Table.{rulesAnswer, blocksAnswer, tableAnswer, blockMarks, bufferAfter, tableMarks}
 use Rattle.table.specs.Same.{SameCounts, SameKeys}
 
@@ -44,10 +44,6 @@ module _ (t : List ℕ) (h : Header) (u : List ℕ) (k : Header) (c : SameCounts
   pub counts-same : (bs : List ℕ) → countsRight u k bs ≡ countsRight t h bs
   unfolding countsRight
   counts-same bs = rw (fun-ext (c .count), total-same bs, c .records)
-
-  pub sum-same : (bs : List ℕ) → sumFits u k bs ≡ sumFits t h bs
-  unfolding sumFits
-  sum-same bs = rw (total-same bs)
 
 -- ---- keys
 
@@ -100,9 +96,8 @@ module _ (t : List ℕ) (h : Header) (u : List ℕ) (k : Header) (c : SameCounts
 -- ---- the table check
 
 -- the same tests, the same answer
-tests-same : {a b c d : Bool} (a′ b′ c′ d′ : Bool) → a ≡ a′ → b ≡ b′ → c ≡ c′ → d ≡ d′ →
-    firstBroken a chainRule (recordsAnswer b c d) ≡ firstBroken a′ chainRule (recordsAnswer b′ c′ d′)
-tests-same a′ b′ c′ d′ e f g h = rw (e, f, g, h)
+tests-same : {a b c : Bool} (a′ b′ c′ : Bool) → a ≡ a′ → b ≡ b′ → c ≡ c′ → testsAnswer a b c ≡ testsAnswer a′ b′ c′
+tests-same a′ b′ c′ e f g = rw (e, f, g)
 
 -- as many blocks, and the same answer of the rules
 room-same : {n a : ℕ} (n′ a′ room : ℕ) → n ≡ n′ → a ≡ a′ →
@@ -130,9 +125,8 @@ module _ (t : List ℕ) (h : Header) (u : List ℕ) (k : Header) (l : SameLinks 
   rules-same c s =
       let used = usedOf t h in
       let e = used-same t h u k l in
-      tests-same (tableChained t h) (countsRight t h used) (sumFits t h used) (keysAscend t h used) chained-same
+      tests-same (tableChained t h) (countsRight t h used) (keysAscend t h used) chained-same
       (ap (countsRight u k) e ∙ counts-same t h u k c used)
-      (ap (sumFits u k) e ∙ sum-same t h u k c used)
       (ap (keysAscend u k) e ∙ ascend-same t h u k c s used)
 
 -- of two files that keep rules 1 to 7

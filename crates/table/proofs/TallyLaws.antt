@@ -9,8 +9,7 @@ use native.Mathlib.Omega.{arith}
 use lib.Dec.{eqb, leb}
 use borrow.Author.Tests.{leb-true, leb-false}
 use Rattle.words.proofs.Conjunctions.{both}
-use Rattle.header.specs.Header.{mostRecords}
-use Rattle.table.specs.Table.{recordsAnswer}
+use Rattle.table.specs.Table.{testsAnswer}
 use Rattle.blocks.specs.Shape.{recordAt, Sound}
 use Rattle.blocks.specs.Counts.{countIn}
 use Rattle.blocks.specs.declared.Shape.{Shape}
@@ -108,16 +107,16 @@ module _ (t : List ℕ) (g : Shape) (key : ℕ) where
             ∙ passed-ascend t g key (recordsIn t g used) None
         go false h = ap isOrdered (a .keyless (none (omega (arith, leb-false 1 keys h))))
 
-    -- what the rules answer, with every count good or not
+    -- what the rules answer where the chain rules are kept, with every count good or not
     abbrev pub answer : Bool → ℕ → ℕ
     answer good records =
-        recordsAnswer (good && eqb (total t g used) records) (leb (total t g used) mostRecords)
+        testsAnswer true (good && eqb (total t g used) records)
         (cond (leb 1 keys) (ascend (keysIn t g key used)) true)
 
     -- the tally of all used blocks answers what the rules do
     pub tally-answer : (records : ℕ) →
         tallyAnswer (foldl (addBlock t g key) nothing used) records ≡ answer (countsGood t g used) records
-    unfolding nothing tallyAnswer recordsAnswer
+    unfolding nothing tallyAnswer testsAnswer
     tally-answer records = go (countsGood t g used) refl
       where
         go : (c : Bool) → countsGood t g used ≡ c → tallyAnswer whole records ≡ answer c records

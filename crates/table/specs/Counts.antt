@@ -1,9 +1,10 @@
--- Count rules over the used blocks, a list of block numbers (refusals 9 and 16). Definitions only.
-use Prim.Native.Nat.{ℕ, _+_}
+-- Count rules over the used blocks, a list of block numbers (refusal 9). Definitions only.
+use Prim.Native.Nat.{ℕ, _+_, _-_, _*_}
 use mathlib.Core.Bool.{Bool, true, false, _&&_}
 use mathlib.Core.List.{List, [], _∷_}
-use lib.Dec.{eqb, leb}
-use Rattle.header.specs.Header.{mostRecords}
+use lib.Dec.{eqb}
+use Rattle.header.specs.Header.{mostUnits, blockHead, mostBlocks}
+use Rattle.header.specs.Stored.{unit}
 use Rattle.header.specs.declared.Header.{Header}
 use Rattle.blocks.specs.Shape.{shapeOf}
 use Rattle.blocks.specs.Counts.{countIn}
@@ -36,6 +37,7 @@ total t g (b ∷ bs) = held (countIn t g b) + total t g bs
 unfoldable pub countsRight : List ℕ → Header → List ℕ → Bool
 countsRight t h used = countsGood t (shapeOf h) used && eqb (total t (shapeOf h) used) (h .records)
 
--- 16: the counts of the used blocks add up to at most 2,147,483,647
-unfoldable pub sumFits : List ℕ → Header → List ℕ → Bool
-sumFits t h used = leb (total t (shapeOf h) used) mostRecords
+-- no rule, but what the limits give: the counts of a table's blocks, none of them twice, add up to no more than this,
+-- as no block holds more records than it has bytes behind its head
+abbrev pub mostTotal : ℕ
+mostTotal = mostBlocks * (mostUnits * unit - blockHead)

@@ -5,8 +5,8 @@ use mathlib.Core.List.{List, [], _++_}
 use lib.ListN.{length, getD, replicate, drop}
 use Rattle.words.specs.Order.{order}
 use Rattle.words.specs.declared.Order.the-variants.{Less}
-use Rattle.header.specs.Refusals.{chainRule, wrongCount, keyOrder, shortBuffer, tooManyRecords}
-use Rattle.header.specs.Header.{mostRecords, headerRefusal}
+use Rattle.header.specs.Refusals.{chainRule, wrongCount, keyOrder, shortBuffer}
+use Rattle.header.specs.Header.{headerRefusal}
 use Rattle.header.specs.Numbers.{numbersOf}
 use Rattle.header.specs.Rules.{HeaderRules, Accepted}
 use Rattle.header.specs.declared.Header.{Header}
@@ -34,7 +34,7 @@ pub record Counted (t : List ℕ) (g : Shape) (bs : List ℕ) (p : Position) : T
   pub block-there : p .block ≡ getD bs index 0
   pub place-below : p .place < held (countIn t g (getD bs index 0))
 
--- rules 1 to 10 and 16
+-- rules 1 to 10
 pub record TableRules (t : List ℕ) : Type 0 where
   -- 1 to 7
   pub header : HeaderRules t (length t)
@@ -47,8 +47,6 @@ pub record TableRules (t : List ℕ) : Type 0 where
   pub counts-length : length counts ≡ length used
   pub holding : (i : ℕ) → i < length used → Holds t (shapeOf (numbersOf t)) (getD used i 0) (getD counts i 0)
   pub counts-sum : sum counts ≡ numbersOf t .records
-  -- 16: they add up to at most 2,147,483,647
-  pub few : sum counts ≤ mostRecords
   -- 10: with key fields, the keys of all records in chain order strictly ascend
   pub keys : 1 ≤ numbersOf t .«key_fields» →
       Ascending (keysAt t (shapeOf (numbersOf t)) (numbersOf t .«key_length») (recordsHeld used counts))
@@ -83,8 +81,7 @@ pub data MarksLeft (t m : List ℕ) : ℕ → List ℕ → Type 0 where
   by-buffer : MarksLeft t m shortBuffer m
   -- 8: the mark of every block is 0
   by-chains : MarksLeft t m chainRule (replicate (numbersOf t .blocks) unmarked ++ drop (numbersOf t .blocks) m)
-  -- 9, 16, 10 and acceptance: 1 for a used block and 2 for a free one
+  -- 9, 10 and acceptance: 1 for a used block and 2 for a free one
   by-counts : MarksLeft t m wrongCount (noted t m)
-  by-sum : MarksLeft t m tooManyRecords (noted t m)
   by-keys : MarksLeft t m keyOrder (noted t m)
   accepting : MarksLeft t m 0 (noted t m)

@@ -3,10 +3,10 @@ use Prim.Native.Nat.{ℕ, zero, suc, _+_, _≤_}
 use mathlib.Core.Path.{_≡_}
 use mathlib.Core.Bool.{Bool, true, false, cond, _&&_}
 use mathlib.Core.List.{List, foldl}
-use lib.Dec.{eqb, leb}
+use lib.Dec.{eqb}
 use lib.ListN.{length, replicate}
 use Rattle.words.specs.Order.{isLess, order, range}
-use Rattle.header.specs.Header.{mostRecords, mostBlocks}
+use Rattle.header.specs.Header.{mostBlocks}
 use Rattle.header.specs.Rules.{Accepted}
 use Rattle.header.specs.declared.Header.{Header}
 use Rattle.blocks.specs.Shape.{shapeOf, recordAt, Sound}
@@ -18,7 +18,7 @@ use Rattle.chain.specs.Chain.{names, lastOf}
 use Rattle.chain.specs.Links.{previousOf, blocksFrom, usedOf}
 use Rattle.chain.specs.Marks.{unmarked, usedMark, freeMark, marksOf}
 use Rattle.chain.specs.Following.{takesAll, marked, anyTwo}
-use Rattle.table.specs.Table.{tableChained, recordsAnswer}
+use Rattle.table.specs.Table.{tableChained, testsAnswer}
 use Rattle.table.specs.declared.keys.Keys.{Keys}
 use Rattle.table.specs.declared.keys.Keys.the-variants.{None, Last, Unordered}
 use Rattle.table.specs.declared.tally.Tally.{Tally}
@@ -74,11 +74,10 @@ addCount t g key tally b Bad = uncounted
 unfoldable pub addBlock : List ℕ → Shape → ℕ → Tally → ℕ → Tally
 addBlock t g key tally b = cond (tally .counted) (addCount t g key tally b (countIn t g b)) tally
 
--- what a tally answers: 9, 16, 10 or 0
+-- what a tally answers where the chain rules are kept: 9, 10 or 0
 unfoldable pub tallyAnswer : Tally → ℕ → ℕ
 tallyAnswer tally records =
-    recordsAnswer (tally .counted && eqb (tally .records) records) (leb (tally .records) mostRecords)
-    (isOrdered (tally .keys))
+    testsAnswer true (tally .counted && eqb (tally .records) records) (isOrdered (tally .keys))
 
 -- ---- chains
 

@@ -1,11 +1,11 @@
--- The table check: 1 to 7, then 14 for the mark buffer, then 8, 9, 16, 10; and what it leaves in the mark buffer.
+-- The table check: 1 to 7, then 14 for the mark buffer, then 8, 9, 10; and what it leaves in the mark buffer.
 -- Definitions only.
 use Prim.Native.Nat.{ℕ}
 use mathlib.Core.Bool.{Bool, cond}
 use mathlib.Core.List.{List, [], _∷_, _++_}
 use lib.Dec.{leb}
 use lib.ListN.{length, replicate, drop}
-use Rattle.header.specs.Refusals.{chainRule, wrongCount, keyOrder, shortBuffer, tooManyRecords, firstBroken}
+use Rattle.header.specs.Refusals.{chainRule, wrongCount, keyOrder, shortBuffer, firstBroken}
 use Rattle.header.specs.Refusals.{headerRefusals}
 use Rattle.header.specs.Answers.{unlessRefused, headerFirst, refusedWith, acceptedWith}
 use Rattle.header.specs.Numbers.{numbersOf}
@@ -14,7 +14,7 @@ use Rattle.header.specs.declared.HeaderAnswer.{HeaderAnswer}
 use Rattle.chain.specs.Chain.{chainsRight}
 use Rattle.chain.specs.Links.{linksOf, usedOf}
 use Rattle.chain.specs.Marks.{unmarked, marksOf}
-use Rattle.table.specs.Counts.{countsRight, sumFits}
+use Rattle.table.specs.Counts.{countsRight}
 use Rattle.table.specs.Keys.{keysAscend}
 
 -- 8: the chains of a table keep the chain rules
@@ -23,24 +23,22 @@ tableChained t h = chainsRight (h .blocks) (linksOf t h)
 
 -- ---- the answer
 
--- 9, 16, 10, by the tests of the records: the first broken rule's number, or 0
-unfoldable pub recordsAnswer : Bool → Bool → Bool → ℕ
-recordsAnswer counts few keys =
-    firstBroken counts wrongCount (firstBroken few tooManyRecords (firstBroken keys keyOrder 0))
+-- 8, 9, 10, by the tests of these rules: the first broken rule's number, or 0
+unfoldable pub testsAnswer : Bool → Bool → Bool → ℕ
+testsAnswer chains counts keys =
+    firstBroken chains chainRule (firstBroken counts wrongCount (firstBroken keys keyOrder 0))
 
--- 8 comes before them
+-- 8, 9, 10 of a table
 unfoldable pub rulesAnswer : List ℕ → Header → ℕ
-rulesAnswer t h =
-    firstBroken (tableChained t h) chainRule
-    (recordsAnswer (countsRight t h (usedOf t h)) (sumFits t h (usedOf t h)) (keysAscend t h (usedOf t h)))
+rulesAnswer t h = testsAnswer (tableChained t h) (countsRight t h (usedOf t h)) (keysAscend t h (usedOf t h))
 
 -- 14 comes before them: a mark buffer of `room` bytes has one for each block
 unfoldable pub blocksAnswer : List ℕ → Header → ℕ → ℕ
 blocksAnswer t h room = firstBroken (leb (h .blocks) room) shortBuffer (rulesAnswer t h)
 
--- the refusals behind 1 to 7: 14, 8, 9, 16, 10
+-- the refusals behind 1 to 7: 14, 8, 9, 10
 abbrev pub blocksRefusals : List ℕ
-blocksRefusals = shortBuffer ∷ chainRule ∷ wrongCount ∷ tooManyRecords ∷ keyOrder ∷ []
+blocksRefusals = shortBuffer ∷ chainRule ∷ wrongCount ∷ keyOrder ∷ []
 
 -- what checking a table answers, for any bytes and a mark buffer of `room` bytes
 unfoldable pub tableAnswer : List ℕ → ℕ → ℕ

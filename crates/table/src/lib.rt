@@ -14,7 +14,7 @@ use header::Header;
 use header::HeaderAnswer;
 use header::refusal;
 
-// Checks a table: 0, or the first of 1 to 7, 14, 8, 9, 16 and 10 that any bytes break. With 1 to 7 and 14
+// Checks a table: 0, or the first of 1 to 7, 14, 8, 9 and 10 that any bytes break. With 1 to 7 and 14
 // the mark buffer is as it was. With 8 the mark of every block is 0, else 1 for a used block and 2 for a
 // free one; bytes past those of the blocks never change.
 pub fn check(table: &[u8], marks: &mut [u8]) -> u8

@@ -31,16 +31,13 @@ impl Tally {
         }
     }
 
-    // What the tally of all used blocks answers, by the header's count: 9, 16, 10, or 0.
+    // What the tally of all used blocks answers, by the header's count: 9, 10, or 0.
     pub fn answer(self, records: u32) -> u8
         ensures { λ r. ⌜ r ≡ tallyAnswer self records ⌝ }
     {
         let right = self.counted & (self.records == records);
         if !right {
             return refusal::WRONG_COUNT;
-        }
-        if header::MOST_RECORDS < self.records {
-            return refusal::TOO_MANY_RECORDS;
         }
         let keys = self.keys;
         if !keys.is_ordered() {
@@ -50,7 +47,8 @@ impl Tally {
     }
 }
 
-// The tally with one block more. Behind a bad count no block is looked at.
+// The tally with one block more. Behind a bad count no block is looked at. A helper of `used::follow_used` and no call
+// for users: its caller has a block of the file, and a tally with room for the block's records.
 pub fn with_block(table: &[u8], shape: Shape, key: usize, tally: Tally, block: usize) -> Tally
     requires { ⌜ (1 ≤ block) × (block ≤ shape .blocks) × Sound (now table) shape ⌝ }
     requires { ⌜ (key ≤ shape .«record_size») × (tally .records + 65535 ≤ 4294967295) ⌝ }

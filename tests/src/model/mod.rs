@@ -1,4 +1,4 @@
-//! A second implementation of document 01 and of requests 01 and 02 of document 02, written from the
+//! A second implementation of document 01 and of requests 01, 02 and 10 of document 02, written from the
 //! papers and from how their open places are read.
 
 mod blob;

@@ -1,6 +1,6 @@
 //! The refusal numbers (document 01, "Refusal numbers", and document 02).
 
-/// Why a call refuses. Number 16 has no case here: the counts of 32,767 blocks never add up to it.
+/// Why a call refuses.
 #[derive(Clone, Copy, Debug, PartialEq, Eq)]
 #[repr(u8)]
 pub enum Refusal {
