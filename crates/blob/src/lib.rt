@@ -1,4 +1,6 @@
 // A memo or another blob of a table: in which file it stands and where, and its bytes as the part of that file.
+#![tactic(auto)]
+
 mod answer;
 mod leader;
 mod mb;

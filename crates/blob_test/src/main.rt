@@ -1,6 +1,8 @@
 // Blobs of tables with their MB files. The files are in the file `stdin`, written from request 01 and source document
 // 001.
 // Its functions are proved safe and promise nothing more: what they print is compared with the file `stdout`.
+#![tactic(auto)]
+
 mod blobs;
 mod cases;
 

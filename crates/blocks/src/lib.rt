@@ -1,5 +1,7 @@
 // A file of blocks, data table or index alike: its shape, and where a block and a record begin.
 // The functions are helpers of the crates above, which have judged the file's sizes and the block's number.
+#![tactic(auto)]
+
 mod count;
 
 ghost use Rattle.std.specs.Prelude.{◌≡◌, ◌≤◌, ◌<◌};

@@ -1,6 +1,8 @@
 // Pieces put into a lent buffer, one behind the other: each function answers the offset behind its piece.
 // The functions are helpers of the crates above, which see to the room; every other byte of the buffer stays. `numbers`
 // has the same for a buffer of numbers, and makes one 0 as a whole.
+#![tactic(auto)]
+
 mod numbers;
 
 ghost use Rattle.std.specs.Prelude.{[], ◌∷◌};

@@ -1,4 +1,6 @@
 // One cell: read by block, place and field; its text as the part of the table it is; one value written.
+#![tactic(auto)]
+
 mod decode;
 mod double;
 mod form;

@@ -1,5 +1,7 @@
 // Cells read, refused and written. The tables and values are in the file `stdin`, written from document 01.
 // Its functions are proved safe and promise nothing more: what they print is compared with the file `stdout`.
+#![tactic(auto)]
+
 mod cases;
 mod cells;
 mod records;

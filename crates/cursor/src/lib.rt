@@ -1,4 +1,6 @@
 // Records one after another: a cursor that steps along the used chain of a table.
+#![tactic(auto)]
+
 mod moves;
 
 ghost use Rattle.std.specs.Prelude.{◌≡◌};

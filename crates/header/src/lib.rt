@@ -1,4 +1,6 @@
 // The header of a table: field kinds, refusal numbers, table rules 1 to 7 in one call, and the names of fields.
+#![tactic(auto)]
+
 mod answer;
 mod field;
 mod fields;

@@ -1,6 +1,8 @@
 // Headers of tables, read and printed: refusal, numbers and fields. The tables are in the file `stdin`, written from
 // document 01.
 // Its functions are proved safe and promise nothing more: what they print is compared with the file `stdout`.
+#![tactic(auto)]
+
 mod answers;
 mod cases;
 mod fields;

@@ -1,4 +1,6 @@
 // The index file of a table: index rules 21 to 26 in one call, and the walk from its root to a record.
+#![tactic(auto)]
+
 mod entries;
 mod rules;
 mod stored;

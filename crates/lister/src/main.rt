@@ -1,4 +1,6 @@
 // Lists the table on standard input, as document 01 says. What is printed is made by the library `listing`.
+#![tactic(auto)]
+
 use cursor::{Cursor, Step};
 use libc::{STDIN_FILENO, STDOUT_FILENO};
 

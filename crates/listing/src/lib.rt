@@ -1,5 +1,7 @@
 // The listing of a table: its first line, and a line for each record. What a program prints of any bytes is `head` and,
 // for each record in chain order, `line`.
+#![tactic(auto)]
+
 mod cells;
 
 ghost use Rattle.std.specs.Prelude.{◌≡◌};

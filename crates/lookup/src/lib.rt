@@ -1,5 +1,7 @@
 // What both ways to find a key share: what they answer, whether a key fits a table, and the first record with it in a
 // block.
+#![tactic(auto)]
+
 mod block;
 mod found;
 

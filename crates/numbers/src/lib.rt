@@ -1,4 +1,6 @@
 // What the calls answer, as numbers in lent memory: for programs that have neither enums nor structs of ours.
+#![tactic(auto)]
+
 mod blobs;
 mod cells;
 mod cursors;

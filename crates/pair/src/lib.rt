@@ -1,4 +1,6 @@
 // A table and its index together: the pair check, and a key looked up in both.
+#![tactic(auto)]
+
 mod tree;
 
 ghost use Rattle.std.specs.Prelude.{◌≡◌, length};

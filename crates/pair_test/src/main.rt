@@ -1,6 +1,8 @@
 // Tables and indexes accepted and refused by the pair check, and keys sought by a walk and by a scan. The files are in
 // the file `stdin`, written from document 01.
 // Its functions are proved safe and promise nothing more: what they print is compared with the file `stdout`.
+#![tactic(auto)]
+
 mod answers;
 mod cases;
 mod every;

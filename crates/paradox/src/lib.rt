@@ -1,4 +1,6 @@
 // The library for C: the calls of the crates below, with numbers and lent slices only.
+#![tactic(auto)]
+
 ghost use Rattle.std.specs.Prelude.{◌≡◌, length};
 ghost use Rattle.table.specs.Table.{table_answer, table_marks};
 ghost use Rattle.lookup.specs.Found.{lookup_of};

@@ -1,6 +1,8 @@
 // Records of tables one after another, and keys sought by a scan, on tables accepted and refused. The tables are in
 // the file `stdin`, written from document 01.
 // Its functions are proved safe and promise nothing more: what they print is compared with the file `stdout`.
+#![tactic(auto)]
+
 mod cases;
 mod keys;
 mod records;

@@ -1,4 +1,6 @@
 // The scan: the record with a key found by a look at every record, in chain order.
+#![tactic(auto)]
+
 ghost use Rattle.std.specs.Prelude.{◌≡◌, length};
 ghost use Rattle.lookup.specs.Found.{lookup_of};
 ghost use Rattle.scan.specs.Scan.{scan_lookup, scan_marks, scan_of};

@@ -1,4 +1,6 @@
 // The table check: chains, counts and key order of the used blocks, in one pass along each chain.
+#![tactic(auto)]
+
 mod chains;
 mod free;
 mod keys;

@@ -1,6 +1,8 @@
 // Tables accepted and refused by the table check, and what the mark buffer holds afterwards. The tables are in the
 // file `stdin`, written from document 01.
 // Its functions are proved safe and promise nothing more: what they print is compared with the file `stdout`.
+#![tactic(auto)]
+
 mod cases;
 
 use libc::STDIN_FILENO;

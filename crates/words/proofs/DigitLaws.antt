@@ -22,11 +22,13 @@ unfolding digits big
 big_digits zero n rest h = omega arith
 big_digits (suc w) n rest h =
     let p = pow-suc 256 w in
-    let a : (digits w (n / 256) ++ (n % 256 ∷ [])) ++ rest ≡ digits w (n / 256) ++ n % 256 ∷ rest = append_assoc
+    let a : digits (suc w) n ++ rest ≡ digits w (n / 256) ++ n % 256 ∷ rest = append_assoc
     (digits w (n / 256)) (n % 256 ∷ []) rest in
-    let b : byte (digits w (n / 256) ++ n % 256 ∷ rest) w ≡ n % 256 = get_or_at (digits w (n / 256)) (n % 256) rest 0 w
-    (digits_length w (n / 256)) in
-    rw (a, zero-add, b, big_digits w (n / 256) (n % 256 ∷ rest) (omega arith)) (omega arith)
+    let b : byte (digits (suc w) n ++ rest) w ≡ n % 256 = ap (λ (l : List ℕ). byte l w) a ∙ get_or_at
+    (digits w (n / 256)) (n % 256) rest 0 w (digits_length w (n / 256)) in
+    let q : big (digits (suc w) n ++ rest) 0 w ≡ n / 256 = ap (λ (l : List ℕ). big l 0 w) a ∙ big_digits w (n / 256)
+    (n % 256 ∷ rest) (omega arith) in
+    rw (zero-add, b, q) (omega arith)
 
 -- the bytes of the number at an offset are the bytes there
 pub digits_big : (s : List ℕ) (at w : ℕ) → Bytes s → at + w ≤ length s → digits w (big s at w) ≡ range s at w

@@ -1,6 +1,8 @@
 // Numbers and byte order as the files have them: headers and block heads hold the low byte first, cells
 // and index entries the high byte first, and keys compare byte by byte.
 // The functions are helpers of the crates above: each `requires` says where its bytes stand.
+#![tactic(auto)]
+
 mod bytes;
 mod eight;
 mod zeros;

@@ -1,0 +1,15 @@
+-- `Order::is_at_most` meets its contract, case by case. Assumes nothing.
+use Rattle.words.specs.Order.{is_at_most}
+use Rattle.words.proofs.Order.is_at_most.Goals as goal
+
+pub returns-in-Less : goal.returns-in-Less
+unfolding is_at_most
+returns-in-Less c = rw c.in-Less.is
+
+pub returns-in-Same : goal.returns-in-Same
+unfolding is_at_most
+returns-in-Same c = rw c.in-Same.is
+
+pub returns-in-More : goal.returns-in-More
+unfolding is_at_most
+returns-in-More c = rw c.in-More.is
