@@ -9,7 +9,7 @@ use crate::answer::Blob;
 use header::refusal;
 
 // The blob that a block states: where it begins in the block, and its length.
-#[derive(Drop)]
+#[derive(Clone, Copy)]
 pub enum Stated {
     Is { begin: u32, len: u32 },
     Nothing,

@@ -17,7 +17,7 @@ const WORD_VALUES: u32 = 65536;
 const LAST_RECORD: usize = 4;
 
 // How many records a block holds, or that its number breaks the rule.
-#[derive(Drop)]
+#[derive(Clone, Copy)]
 pub enum Count {
     Records(u16),
     Bad,

@@ -14,7 +14,7 @@ use header::Header;
 const BLOCK_HEAD: usize = header::BLOCK_HEAD as usize;
 
 // The shape of a file of blocks. Sizes are in bytes.
-#[derive(Drop)]
+#[derive(Clone, Copy)]
 pub struct Shape {
     pub header_size: u16,
     pub block_size: u16,

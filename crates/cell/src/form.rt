@@ -8,7 +8,7 @@ ghost use Rattle.cell.specs.Steps.{coded_form};
 use crate::{double, limits, signed};
 
 // The number that a cell stores for a value, where there is one.
-#[derive(Drop)]
+#[derive(Clone, Copy)]
 pub enum Coded {
     Number(u64),
     None,

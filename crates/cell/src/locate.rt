@@ -9,7 +9,7 @@ use blocks::{Count, Shape};
 use header::{Field, Header, refusal};
 
 // Where a cell begins in the table; or that the block's count is bad (9) or has no such place (13).
-#[derive(Drop)]
+#[derive(Clone, Copy)]
 pub enum Place {
     At(usize),
     Refused(u8),

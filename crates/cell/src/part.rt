@@ -5,7 +5,7 @@ ghost use Rattle.cell.specs.Values.{no_part, part_of, value_part};
 
 use crate::value::{Cell, Value};
 
-#[derive(Drop)]
+#[derive(Clone, Copy)]
 pub struct Part {
     pub start: usize,
     pub len: usize,

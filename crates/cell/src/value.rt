@@ -2,7 +2,7 @@
 
 // A value. A date is a day number, counted from 1 January 0001, which is day 1. A text is a part of lent bytes: of the
 // table where it is read, of the bytes lent beside it where it is written.
-#[derive(Drop)]
+#[derive(Clone, Copy)]
 pub enum Value {
     Blank,
     Short(i16),
@@ -14,7 +14,7 @@ pub enum Value {
 }
 
 // What reading a cell answers: its value, or a refusal's number.
-#[derive(Drop)]
+#[derive(Clone, Copy)]
 pub enum Cell {
     Is(Value),
     Refused(u8),

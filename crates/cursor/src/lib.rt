@@ -12,7 +12,7 @@ use header::refusal;
 
 // Where stepping stands: on the record at a place (from 0) of a block, after so many moves from block to
 // block; or ended. An ended one that starting or stepping makes has its numbers 0.
-#[derive(Drop)]
+#[derive(Clone, Copy)]
 pub struct Cursor {
     pub block: u16,
     pub place: u16,
@@ -21,7 +21,7 @@ pub struct Cursor {
 }
 
 // What starting and stepping answer, with the cursor to go on with.
-#[derive(Drop)]
+#[derive(Clone, Copy)]
 pub enum Step {
     // The cursor stands on a record.
     Record(Cursor),

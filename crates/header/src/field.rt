@@ -7,7 +7,7 @@ use crate::Header;
 use crate::kind::{FieldKind, StoredKind};
 
 // Its kind, its width and where it begins in a record; or that the table has no such field.
-#[derive(Drop)]
+#[derive(Clone, Copy)]
 pub enum Field {
     Is {
         kind: FieldKind,

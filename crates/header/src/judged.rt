@@ -1,5 +1,5 @@
 // What judging a field pair or a name gives: a number where it keeps rule 7.
-#[derive(Drop)]
+#[derive(Clone, Copy)]
 pub enum Judged {
     Good(usize),
     Bad,

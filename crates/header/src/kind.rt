@@ -4,7 +4,7 @@ ghost use Rattle.header.specs.Kinds.{is_blob, kind_of, permit};
 
 // What a field holds. Currency (05) and number (06) hold the same values and are one kind here, and so are memo (0C),
 // binary (0D), formatted memo (0E), OLE (0F) and graphic (10), which are blobs.
-#[derive(Drop)]
+#[derive(Clone, Copy)]
 pub enum FieldKind {
     Text,
     Date,
@@ -16,14 +16,14 @@ pub enum FieldKind {
 }
 
 // The kind of a stored pair of code and width, or none where the table has no such pair.
-#[derive(Drop)]
+#[derive(Clone, Copy)]
 pub enum StoredKind {
     Kind(FieldKind),
     Unknown,
 }
 
 // A row of document 01's table: the kind of a code, its least and its most width.
-#[derive(Drop)]
+#[derive(Clone, Copy)]
 struct KindRow {
     kind: FieldKind,
     least: usize,

@@ -25,7 +25,7 @@ pub use rules::{BLOCK_HEAD, MOST_BLOCKS, MOST_UNITS, is_length_right, known_vers
 pub use stored::{block_bytes, block_size};
 
 // The numbers of a header. Sizes and lengths are in bytes.
-#[derive(Drop)]
+#[derive(Clone, Copy)]
 pub struct Header {
     pub version: u8,
     pub header_size: u16,
@@ -50,7 +50,7 @@ pub struct Header {
 }
 
 // What reading a header answers: refusal 0 and the header's numbers, or a refusal's number with every other number 0.
-#[derive(Drop)]
+#[derive(Clone, Copy)]
 pub struct HeaderAnswer {
     pub refusal: u8,
     pub header: Header,

@@ -6,7 +6,7 @@ ghost use Rattle.header.specs.Rules.{Accepted};
 use crate::{Header, names, refusal};
 
 // Which part of the table a name is, without its ending zero; or a refusal's number.
-#[derive(Drop)]
+#[derive(Clone, Copy)]
 pub enum Name {
     At { start: usize, len: usize },
     Refused(u8),

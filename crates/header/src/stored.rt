@@ -56,7 +56,7 @@ const TABLE_NAME: u16 = 79;
 const BEFORE_NAMES: u16 = TABLE_NAME + POINTER;
 
 // The record count is signed in the file; it is kept as an unsigned number and judged by its limit.
-#[derive(Drop)]
+#[derive(Clone, Copy)]
 pub struct Stored {
     pub record_size: u16,
     pub header_size: u16,

@@ -14,7 +14,7 @@ const TOP_BIT: u64 = 32768;
 const NUMBER_WIDTH: usize = 2;
 
 // The block that a key leads to from an index block, or that every entry's key is above it.
-#[derive(Drop)]
+#[derive(Clone, Copy)]
 pub enum Below {
     Block(u16),
     Nothing,
@@ -22,7 +22,7 @@ pub enum Below {
 
 // What an index block answers to a key, or its refusal's number: it may be outside the file, have a bad count or no
 // entry.
-#[derive(Drop)]
+#[derive(Clone, Copy)]
 pub enum Descent {
     Read(Below),
     Refused(u8),

@@ -18,7 +18,7 @@ pub use walking::{Walked, walk};
 
 // What reading an index's header answers: refusal 0 and the header's numbers, or a refusal's number with every other
 // number 0.
-#[derive(Drop)]
+#[derive(Clone, Copy)]
 pub struct IndexHeader {
     pub refusal: u8,
     // The file's shape; its records are the entries.

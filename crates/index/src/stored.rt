@@ -21,7 +21,7 @@ const LEVELS: usize = 0x20;
 
 const VERSION: usize = 0x39;
 
-#[derive(Drop)]
+#[derive(Clone, Copy)]
 pub struct Stored {
     pub record_size: u16,
     pub header_size: u16,

@@ -11,7 +11,7 @@ use header::refusal;
 use lookup::Found;
 
 // What a walk found, and the number of index blocks that it read; 0 of them with a refusal.
-#[derive(Drop)]
+#[derive(Clone, Copy)]
 pub struct Walked {
     pub found: Found,
     pub reads: u8,

@@ -19,7 +19,7 @@ pub const MOST_BYTES: usize = 65536;
 const MARKS: usize = 32767;
 
 // The first line: its length, and how many records' lines come after it; none with a refusal.
-#[derive(Drop)]
+#[derive(Clone, Copy)]
 pub struct HeadLine {
     pub len: usize,
     pub records: u32,

@@ -3,7 +3,7 @@ ghost use Rattle.std.specs.Prelude.{◌≡◌};
 ghost use Rattle.lookup.specs.Found.{is_record};
 
 // Where the record with the key is, that there is none, or a refusal's number.
-#[derive(Drop)]
+#[derive(Clone, Copy)]
 pub enum Found {
     At { block: u16, place: u16 },
     Absent,

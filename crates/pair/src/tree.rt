@@ -11,7 +11,7 @@ use blocks::{Count, Shape};
 use chain::next_of;
 
 // The shapes of a table and its index, and the key length.
-#[derive(Drop)]
+#[derive(Clone, Copy)]
 pub struct Shapes {
     pub table: Shape,
     pub index: Shape,
@@ -19,14 +19,14 @@ pub struct Shapes {
 }
 
 // Where the used chain is when a part of the tree has been read, or that the part does not fit.
-#[derive(Drop)]
+#[derive(Clone, Copy)]
 pub enum Fit {
     Next(usize),
     Unfit,
 }
 
 // What reading a part of the tree came to, and how many entries were looked at.
-#[derive(Drop)]
+#[derive(Clone, Copy)]
 pub struct Looked {
     pub fit: Fit,
     pub entries: u32,

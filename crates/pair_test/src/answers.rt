@@ -30,7 +30,7 @@ fn show_walk(walked: Walked) {
 }
 
 // The pair check's answer, and a key looked up both ways.
-#[derive(Drop)]
+#[derive(Clone, Copy)]
 pub struct Lookups {
     pub pair: u8,
     pub walk: Walked,

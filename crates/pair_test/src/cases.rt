@@ -12,7 +12,7 @@ use test_lines::after::after;
 use test_lines::lines::{Buffer, CASE, Line, SIZE, end, fresh, stays, step};
 
 // The lengths that lines with `>` have set.
-#[derive(Drop)]
+#[derive(Clone, Copy)]
 struct Lent {
     table: usize,
     index: usize,

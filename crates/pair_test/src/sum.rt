@@ -9,7 +9,7 @@ const ABSENT: u8 = 1;
 
 pub const DIFFER: u8 = 2;
 
-#[derive(Drop)]
+#[derive(Clone, Copy)]
 pub struct Sum {
     pub keys: u16,
     pub fit: u16,

@@ -9,7 +9,7 @@ use chain::marks;
 use header::Header;
 
 // What the chains of a table come to.
-#[derive(Drop)]
+#[derive(Clone, Copy)]
 pub struct Chains {
     // They keep the chain rules.
     pub right: bool,

@@ -8,7 +8,7 @@ ghost use Rattle.table.specs.Steps.{KeyInside, is_ordered, keys_after, run_after
 use blocks::Shape;
 
 // The keys passed so far.
-#[derive(Drop)]
+#[derive(Clone, Copy)]
 pub enum Keys {
     None,
     // Each was less than the next; where the last one stands.

@@ -10,7 +10,7 @@ use blocks::{Count, Shape};
 use header::refusal;
 
 // What the blocks passed come to.
-#[derive(Drop)]
+#[derive(Clone, Copy)]
 pub struct Tally {
     // Every count was good; else the other two say nothing.
     pub counted: bool,

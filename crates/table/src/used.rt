@@ -8,7 +8,7 @@ use blocks::Shape;
 use chain::{marks, next_of, previous_of};
 
 // What the used chain came to.
-#[derive(Drop)]
+#[derive(Clone, Copy)]
 pub struct UsedChain {
     // Every number was that of a block without a mark, which named its predecessor.
     pub whole: bool,

@@ -40,7 +40,7 @@ pub type Buffer = [u8; SIZE];
 // A line as far as it is read. `command` is the letter just read where that is the program's, otherwise 0; `number` is
 // the number or place before it, `first` and `second` are numbers before that one. `marks`, `long`, `index` and `fill`
 // say what is lent.
-#[derive(Drop)]
+#[derive(Clone, Copy)]
 pub struct Line {
     pub kind: u8,
     pub command: u8,

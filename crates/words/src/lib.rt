@@ -16,7 +16,7 @@ use eight::eight;
 pub use zeros::{all_zero, before_zero};
 
 // How two ranges of bytes compare.
-#[derive(Drop)]
+#[derive(Clone, Copy)]
 pub enum Order {
     Less,
     Same,
