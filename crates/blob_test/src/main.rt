@@ -6,7 +6,7 @@
 mod blobs;
 mod cases;
 
-use libc::STDIN_FILENO;
+use test_lines::print::STDIN_FILENO;
 
 fn main() {
     let mut text = io::large_buffer();

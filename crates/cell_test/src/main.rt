@@ -8,7 +8,7 @@ mod records;
 mod values;
 mod written;
 
-use libc::STDIN_FILENO;
+use test_lines::print::STDIN_FILENO;
 
 fn main() {
     let mut text = io::large_buffer();

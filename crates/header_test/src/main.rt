@@ -7,7 +7,7 @@ mod answers;
 mod cases;
 mod fields;
 
-use libc::STDIN_FILENO;
+use test_lines::print::STDIN_FILENO;
 
 fn main() {
     let mut text = io::large_buffer();

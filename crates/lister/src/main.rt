@@ -2,7 +2,11 @@
 #![tactic(auto)]
 
 use cursor::{Cursor, Step};
-use libc::{STDIN_FILENO, STDOUT_FILENO};
+
+// The descriptors of standard input and output.
+const STDIN_FILENO: i32 = 0;
+
+const STDOUT_FILENO: i32 = 1;
 
 // One byte more than the longest table that is listed, so that a longer one is seen.
 const ROOM: usize = 65537;

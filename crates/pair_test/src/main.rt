@@ -10,7 +10,7 @@ mod files;
 mod keys;
 mod sum;
 
-use libc::STDIN_FILENO;
+use test_lines::print::STDIN_FILENO;
 
 fn main() {
     let mut text = io::large_buffer();

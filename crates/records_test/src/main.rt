@@ -7,7 +7,7 @@ mod cases;
 mod keys;
 mod records;
 
-use libc::STDIN_FILENO;
+use test_lines::print::STDIN_FILENO;
 
 fn main() {
     let mut text = io::large_buffer();

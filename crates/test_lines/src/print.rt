@@ -1,5 +1,8 @@
 // Names, answers and marks as text. No contract can say what is written: it is compared with the file `stdout`.
-use libc::STDOUT_FILENO;
+// The descriptors of standard input and output.
+pub const STDIN_FILENO: i32 = 0;
+
+pub const STDOUT_FILENO: i32 = 1;
 
 pub fn say(s: &[u8]) {
     io::write_all(STDOUT_FILENO, s);
