@@ -1,6 +1,6 @@
 -- Less and equal of amounts exclude each other, so that it is enough to know that what comes earlier is less. Assumes
 -- nothing.
-use Prim.Native.Nat.{ℕ, ◌-◌}
+use Prim.Native.Nat.{ℕ}
 use mathlib.Core.Path.{◌≡◌, refl, sym, ◌∙◌}
 use mathlib.Core.Bool.{true, false, true≢false}
 use mathlib.Core.List.{List}
@@ -14,7 +14,7 @@ use Rattle.words.specs.Order.{NotLater, order}
 use Rattle.words.specs.declared.Order.TheVariants.{Less}
 use Rattle.words.proofs.Cases.{apart}
 use Rattle.words.proofs.OrderLaws.{not_later_cases, order_cases}
-use Rattle.cell.specs.Amounts.{Amount, whole, LessThan, wholes, doubles, EqualTo, same_whole, same_double}
+use Rattle.cell.specs.Amounts.{Amount, whole, LessThan, wholes, doubles, blank_whole, blank_double, EqualTo, same_whole, same_double}
 use Rattle.cell.specs.Amounts.{AtMost, negative_zero, positive_zero, TwoZeros, OrderedAs, WholesOrderedAs}
 use Rattle.cell.proofs.ExactLaws.{lt_excludes}
 
@@ -29,14 +29,20 @@ not_greater (negsuc m) (negsuc n) h = let l = ltb-true n m h in le-ltb m n (omeg
 less_not_greater : {x y : Amount} → LessThan x y → LessThan y x → ⊥
 less_not_greater (wholes {x} {y} h) (wholes k) = true≢false (sym k ∙ not_greater x y h)
 less_not_greater (doubles {x} {y} h) (doubles k) = true≢false (sym k ∙ (lt_excludes x y h).0)
+less_not_greater (blank_whole {z}) k = elim k [ ]
+less_not_greater (blank_double {y}) k = elim k [ ]
 
 pub less_not_equal : {x y : Amount} → LessThan x y → EqualTo x y → ⊥
 less_not_equal (wholes {x} h) same_whole = true≢false (sym h ∙ not_greater x x h)
 less_not_equal (doubles {x} {y} h) (same_double k) = true≢false (sym k ∙ (lt_excludes x y h).1)
+less_not_equal (blank_whole {z}) k = elim k [ ]
+less_not_equal (blank_double {y}) k = elim k [ ]
 
 greater_not_equal : {x y : Amount} → LessThan y x → EqualTo x y → ⊥
 greater_not_equal (wholes {x} h) same_whole = true≢false (sym h ∙ not_greater x x h)
 greater_not_equal (doubles {x} {y} h) (same_double k) = true≢false (sym k ∙ (lt_excludes x y h).2)
+greater_not_equal (blank_whole {z}) k = elim k [ ]
+greater_not_equal (blank_double {y}) k = elim k [ ]
 
 -- the two zeros are equal, and neither is less
 zeros_equal : {x y : Amount} {a b : List ℕ} → TwoZeros x y a b → EqualTo x y

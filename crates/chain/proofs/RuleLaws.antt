@@ -36,6 +36,7 @@ unfolding follow
 follow_is next zero b bs c l = absurd (not-suc-le-zero l)
 follow_is next (suc k) zero [] c l = refl
 follow_is next (suc k) zero (x ∷ bs) (leads low c) l = absurd (not-suc-le-zero low)
+follow_is next (suc k) (suc b) [] c l = elim c [ ]
 follow_is next (suc k) (suc b) (x ∷ bs) (leads low c) l =
     ap (λ (r : List ℕ). suc b ∷ r) (follow_is next k (next (suc b)) bs c (le_of_suc-le-suc l))
 

@@ -1,0 +1,16 @@
+-- `long_of` meets its contract: the number less the top bit. Assumes nothing.
+use borrow.Author.Rules.{rules}
+use mathlib.Core.Path.{refl}
+use lib.Dec.{lit≤}
+use mir.Syntax.{w32}
+use Rattle.cell.proofs.SignedCasts.{sub_fits, cast_fits, cast_is}
+use Rattle.cell.proofs.decode.long_of.Goals as goal
+
+pub overflow_sub-result : goal.overflow_sub-result
+overflow_sub-result c = sub_fits w32 c.args.n 2147483648 (search rules) refl (lit≤ tt)
+
+pub overflow_cast-result-2 : goal.overflow_cast-result-2
+overflow_cast-result-2 c = cast_fits w32 c.args.n 2147483648 (search rules) refl (lit≤ tt)
+
+pub returns : goal.returns
+returns c = cast_is w32 c.args.n 2147483648 (search rules) refl (lit≤ tt)

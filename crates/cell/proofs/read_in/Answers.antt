@@ -1,0 +1,65 @@
+-- `read_in` meets its contract: what step 1 and step 2 of locating refuse, then the cell, which they place inside the
+-- table. Assumes nothing.
+use mathlib.Core.Path.{◌≡◌, sym, ap, ◌∙◌}
+use Rattle.header.specs.declared.field.Field.TheVariants as Fie
+use Rattle.blocks.specs.Shape.{shape_of}
+use Rattle.blocks.specs.declared.Shape.{Shape}
+use Rattle.cell.specs.Locating.{field_at, place_at}
+use Rattle.cell.proofs.LocatingLaws.{block_found, located}
+use Rattle.cell.proofs.ReadingLaws.{block_missing, block_refused, block_cell_lem}
+use Rattle.cell.proofs.read_in.Goals as goal
+use Rattle.cell.proofs.read_in.Goals.{After-place_in, In-Is}
+
+pub returns-in_default : goal.returns-in_default
+returns-in_default c =
+    let v = c.args in
+    block_missing v.table.now v.h v.block v.place v.field
+    (sym c.field_in.ensures ∙ c.in_default.is)
+
+-- step 1 has found the field
+found : (c : In-Is) → let v = c.args in
+    field_at v.table.now v.h v.block v.field ≡ Fie.Is c.in-Is.kind c.in-Is.width c.in-Is.offset
+found c = sym c.field_in.ensures ∙ c.in-Is.is
+
+pub place_in-requires : goal.place_in-requires
+place_in-requires c =
+    let v = c.args in
+    let a = c.requires in
+    rw c.shape_of.ensures
+    (block_found v.table.now v.h a v.block v.field c.in-Is.kind c.in-Is.width c.in-Is.offset
+    (found (goal.at.place_in-requires c).In-Is))
+
+-- step 2's answer is the definition's
+placed : (c : After-place_in) → let v = c.args in
+    let offset = c.in-Is.offset in
+    place_at v.table.now (shape_of v.h) v.block v.place offset ≡ c.place_in.result
+placed c =
+    let v = c.args in
+    let offset = c.in-Is.offset in
+    sym
+    (c.place_in.ensures
+    ∙ ap (λ (g : Shape). place_at v.table.now g v.block v.place offset) c.shape_of.ensures)
+
+pub cell_at-requires : goal.cell_at-requires
+cell_at-requires c =
+    let v = c.args in
+    let a = c.requires in
+    let r = placed (goal.at.cell_at-requires c).After-place_in ∙ c.in-At.is in
+    let l = located v.table.now v.h a v.block v.field c.in-Is.kind c.in-Is.width c.in-Is.offset (found (goal.at.cell_at-requires c).In-Is)
+    v.place c.in-At.at r in
+    (l.permitted, l.inside)
+
+pub returns-in-At : goal.returns-in-At
+returns-in-At c =
+    let v = c.args in
+    let r = placed (goal.at.returns-in-At c).After-place_in ∙ c.in-At.is in
+    c.cell_at.ensures
+    ∙ block_cell_lem v.table.now v.h v.block v.place v.field c.in-Is.kind c.in-Is.width c.in-Is.offset (found (goal.at.returns-in-At c).In-Is)
+    c.in-At.at r
+
+pub returns-in-Refused : goal.returns-in-Refused
+returns-in-Refused c =
+    let v = c.args in
+    let r = placed (goal.at.returns-in-Refused c).After-place_in ∙ c.in-Refused.is in
+    block_refused v.table.now v.h v.block v.place v.field c.in-Is.kind c.in-Is.width c.in-Is.offset (found (goal.at.returns-in-Refused c).In-Is)
+    c.in-Refused.number r

@@ -1,0 +1,20 @@
+-- `shifted_long` meets its contract: the casts lose nothing, and the sum is at least 0. Assumes nothing.
+use mathlib.Core.Path.{refl}
+use lib.Dec.{lit≤}
+use mir.Syntax.{w32}
+use Rattle.cell.proofs.SignedCasts.{wide_fits, sum_fits, total, total_fits}
+use Rattle.cell.proofs.signed.shifted_long.Goals as goal
+
+pub overflow_cast-result : goal.overflow_cast-result
+overflow_cast-result c = wide_fits w32 c.args.z 2147483648 c.ranges.z refl (lit≤ tt)
+
+pub overflow_add-result : goal.overflow_add-result
+overflow_add-result c = sum_fits w32 c.args.z 2147483648 c.ranges.z refl (lit≤ tt)
+
+pub overflow_cast-result-2 : goal.overflow_cast-result-2
+overflow_cast-result-2 c =
+    rw (total w32 c.args.z 2147483648 c.ranges.z refl (lit≤ tt))
+    (tt, total_fits w32 c.args.z 2147483648 c.ranges.z refl (lit≤ tt))
+
+pub returns : goal.returns
+returns c = rw (total w32 c.args.z 2147483648 c.ranges.z refl (lit≤ tt))
