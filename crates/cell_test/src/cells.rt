@@ -1,7 +1,6 @@
 // A cell as text: `short 12`, `blank`, `!13` for refusal 13. Behind a text, `text 3 at 1286`, stand its bytes, `[cog]`.
 use cell::{Cell, Value};
-use test_lines::print::STDOUT_FILENO;
-use test_lines::print::{decimal, letter, say};
+use test_lines::print::{STDOUT_FILENO, decimal, letter, say};
 
 // The number n - top, which may be below 0.
 fn less(n: u64, top: u64) {

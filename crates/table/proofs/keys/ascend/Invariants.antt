@@ -1,0 +1,15 @@
+-- What holds on the way in `ascend`.
+use mathlib.Core.Path.{◌≡◌}
+use Prim.Native.Nat.{◌+◌, ◌-◌, ◌≤◌}
+use lib.ListN.{length}
+use Rattle.table.specs.Steps.{keys_after}
+use Rattle.table.specs.declared.keys.Keys.TheVariants.{Last}
+use Rattle.table.proofs.keys.ascend.Given as goal
+
+abbrev pub invariant-loop-place : goal.invariant-loop-place
+invariant-loop-place l =
+    (l.place ≤ l.count) × (l.last + l.key ≤ length l.table) × (keys_after l.table l.shape l.key l.block l.from (l.count - l.from)
+    (Last l.before) ≡ keys_after l.table l.shape l.key l.block l.place (l.count - l.place) (Last l.last))
+
+abbrev pub decreases-loop-place : goal.decreases-loop-place
+decreases-loop-place l = l.count - l.place
