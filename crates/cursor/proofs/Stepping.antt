@@ -81,6 +81,7 @@ module _ (t : List ℕ) (room : ℕ) (accepted : table_answer t room ≡ 0) wher
 -- ---- what stepping gives is determined
 
 pub gives_only : (t : List ℕ) (s : Step) (ps qs : List Position) → Gives t s ps → Gives t s qs → ps ≡ qs
+unfolding at_end
 gives_only t s ps qs none none = refl
 gives_only t s ps qs (one {c = c} {ps = us} g) (one {ps = vs} k) =
     ap (λ (r : List Position). position_of c ∷ r) (gives_only t (step_of t c) us vs g k)
