@@ -1,6 +1,6 @@
 -- Which numbers asking for a blob answers, and what a refusal leaves; and that the part is inside the file that the
 -- answer names. Assumes nothing.
-use Rattle.std.proofs.Common.{◌≡◌, ℕ, ◌+◌, ◌≤◌, true, false, List, [], ◌∷◌, ◌++◌, length, get_or, refl, subst, true≢false, arith}
+use Rattle.std.proofs.Common.{◌≡◌, ℕ, ◌+◌, ◌≤◌, true, List, [], ◌∷◌, ◌++◌, length, get_or, refl, subst, true≢false, arith}
 use Rattle.header.specs.Refusals.{short_buffer, one_of, header_refusals}
 use Rattle.header.specs.Numbers.{numbers_of}
 use Rattle.header.specs.Rules.{Accepted}

@@ -1,6 +1,6 @@
 -- Which numbers the calls in lent numbers answer, and what a refusal leaves: by the laws of what they call, behind 1 to
 -- 7 and 14. Assumes nothing.
-use Rattle.std.proofs.Common.{◌≡◌, ℕ, ◌*◌, true, ◌&&◌, leb, List, [], ◌∷◌, ◌++◌, length, get_or, replicate, refl}
+use Rattle.std.proofs.Common.{◌≡◌, ℕ, ◌*◌, true, ◌&&◌, leb, List, [], ◌∷◌, ◌++◌, get_or, refl}
 use Rattle.words.proofs.Cases.{either}
 use Rattle.header.specs.Refusals.{bad_argument, short_buffer, one_of, header_refusals}
 use Rattle.header.specs.Numbers.{numbers_of, field_of}

@@ -1,5 +1,5 @@
 -- The numbers of a header and of a field, in their order. Definitions only.
-use Rattle.std.specs.Prelude.{ℕ, ◌+◌, ◌-◌, ◌*◌, List, [], ◌∷◌}
+use Rattle.std.specs.Prelude.{ℕ, ◌-◌, List, [], ◌∷◌}
 use Rattle.header.specs.Refusals.{bad_argument}
 use Rattle.header.specs.Fields.{code_at}
 use Rattle.header.specs.Numbers.{numbers_of, field_of}
