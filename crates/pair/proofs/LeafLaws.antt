@@ -12,6 +12,7 @@ use Rattle.blocks.specs.Counts.{count_in}
 use Rattle.blocks.specs.declared.Shape.{Shape}
 use Rattle.blocks.specs.declared.count.Count.TheVariants.{Records}
 use Rattle.blocks.proofs.ShapeLaws.{block_there}
+use Rattle.chain.specs.Links.{next_of}
 use Rattle.chain.specs.Rules.{GoodChain}
 use Rattle.chain.proofs.GoodChainLaws.{good_some}
 use Rattle.table.specs.Records.{Position, held, places_from, records_in}
@@ -61,7 +62,7 @@ module _ (t : List ℕ) (g : Shape) where
     first_leaves b [] c = tt
     first_leaves b (x ∷ bs) c =
         let w = (good_some t g b x bs c).1 in go w.count w.counted (block_there g x w.low w.high)
-        (first_leaves _ bs w.onward)
+        (first_leaves (next_of t g x) bs w.onward)
       where
         go : (m : ℕ) → count_in t g x ≡ Records m → has_block g x ≡ true → All Leaf (first_keys t g n bs)
             → All Leaf (cond (eqb (held (count_in t g x)) 0) (first_keys t g n bs)
