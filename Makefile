@@ -120,12 +120,10 @@ uninstall:
 clean:
 	rm -rf target
 
-# rt leaves a file as it is when nothing of its sources has changed, so it is touched.
 $(BUILT_ARCHIVE): $(SOURCES)
 	@$(NEED_RT)
 	@echo 'Proving the library before it is built takes some minutes; what is proved already is not proved again.' >&2
-	@$(call quietly,rt staticlib paradox)
-	@touch -c $@
+	@$(call quietly,bash tools/build archive)
 
 ifneq ($(ARCHIVE),$(BUILT_ARCHIVE))
 $(ARCHIVE):
@@ -135,8 +133,7 @@ endif
 $(LISTER): $(SOURCES)
 	@$(NEED_RT)
 	@echo 'Proving the lister before it is built takes some minutes; what is proved already is not proved again.' >&2
-	@$(call quietly,rt check lister)
-	@touch -c $@
+	@$(call quietly,bash tools/build lister)
 
 target/counter target/export: target/%: examples/%.c examples/common.h include/paradox.h $(ARCHIVE)
 	@mkdir -p target

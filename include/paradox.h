@@ -155,16 +155,15 @@ static inline uint16_t paradox_index_blocks_read(uint64_t answer)
 
 /* What a cell is, and the kind of a field. */
 enum {
-    PARADOX_REFUSED,     /* 0: no value; in a record the cell's own refusal stands in the value's place */
-    PARADOX_BLANK,       /* 1: a cell of any kind that has nothing in it */
-    PARADOX_SHORT,       /* 2: a signed number, -32,767 to 32,767 */
-    PARADOX_LONG,        /* 3: a signed number, -2,147,483,647 to 2,147,483,647 */
-    PARADOX_DATE,        /* 4: a day's number, 36,160 to 3,652,059; 1 January 0001 is 1 */
-    PARADOX_NUMBER,      /* 5: a finite double; of currency fields too */
-    PARADOX_LOGICAL,     /* 6: 0 false, 1 true */
-    PARADOX_TEXT,        /* 7: bytes of the table, at least one */
-    PARADOX_BLOB,        /* 8: a memo or another blob; a field's kind only, never a cell's */
-    PARADOX_UNCLEAN_TEXT /* 9: a text, maybe empty, whose ending zero has more than zeros behind it; a cell's only */
+    PARADOX_REFUSED, /* 0: no value; in a record the cell's own refusal stands in the value's place */
+    PARADOX_BLANK,   /* 1: a cell of any kind that has nothing in it */
+    PARADOX_SHORT,   /* 2: a signed number, -32,767 to 32,767 */
+    PARADOX_LONG,    /* 3: a signed number, -2,147,483,647 to 2,147,483,647 */
+    PARADOX_DATE,    /* 4: a day's number, 36,160 to 3,652,059; 1 January 0001 is 1 */
+    PARADOX_NUMBER,  /* 5: a finite double; of currency fields too */
+    PARADOX_LOGICAL, /* 6: 0 false, 1 true */
+    PARADOX_TEXT,    /* 7: bytes of the table, at least one */
+    PARADOX_BLOB     /* 8: a memo or another blob; a field's kind only, never a cell's */
 };
 
 /* Where the numbers of a header stand, and how many there are. */
@@ -199,15 +198,12 @@ enum {
 
 /* Where the numbers of a cell stand, and how many there are. */
 enum {
-    PARADOX_CELL_WHAT,           /* what it is, by the names above; PARADOX_REFUSED in a record only */
+    PARADOX_CELL_WHAT,           /* PARADOX_BLANK to PARADOX_TEXT; in a record PARADOX_REFUSED too */
     PARADOX_CELL_VALUE,          /* the functions below take it; of a text where it begins in the table, of a blank 0 */
-    PARADOX_CELL_LENGTH,         /* of a text, unclean or not, its length in bytes, else 0 */
-    PARADOX_CELL_BEHIND,         /* of an unclean text the number of bytes behind its zero, else 0 */
+    PARADOX_CELL_LENGTH,         /* of a text its length in bytes, else 0 */
+    PARADOX_CELL_RESERVED,       /* 0 */
     PARADOX_CELL_NUMBERS         /* how many there are */
 };
-
-/* The name that the last number of a cell had before it had a use. */
-#define PARADOX_CELL_RESERVED PARADOX_CELL_BEHIND
 
 /* The numbers of a table's header: PARADOX_HEADER_NUMBERS of them. */
 uint32_t paradox_header(const uint8_t *table, size_t table_len, uint64_t *numbers, size_t numbers_len);
@@ -288,30 +284,16 @@ static inline int paradox_truth(const uint64_t *cell)
     return cell[PARADOX_CELL_VALUE] != 0;
 }
 
-/*
- * A text ends at its cell's first zero, or fills the cell. Where anything but zeros stands behind that zero, some
- * program left old bytes there. The text is then of a kind of its own, PARADOX_UNCLEAN_TEXT, with the number of bytes
- * behind the zero, zeros among them counted: width - length - 1. It may have length 0, and is not blank. No text cell
- * is refused. A key is whole stored bytes, those behind a zero too.
- */
-
-/* Of PARADOX_TEXT and PARADOX_UNCLEAN_TEXT: where it begins; it is paradox_text_length() bytes long. After PARADOX_TEXT
-   a zero need not follow. */
+/* Of PARADOX_TEXT: where it begins; it is paradox_text_length() bytes long, and a zero need not follow. */
 static inline const uint8_t *paradox_text(const uint8_t *table, const uint64_t *cell)
 {
     return table + cell[PARADOX_CELL_VALUE];
 }
 
-/* Of PARADOX_TEXT and PARADOX_UNCLEAN_TEXT: its length in bytes. */
+/* Of PARADOX_TEXT: its length in bytes. */
 static inline size_t paradox_text_length(const uint64_t *cell)
 {
     return (size_t)cell[PARADOX_CELL_LENGTH];
-}
-
-/* Of PARADOX_UNCLEAN_TEXT: how many bytes of its cell stand behind its zero, at least 1; of any other cell 0. */
-static inline size_t paradox_bytes_behind(const uint64_t *cell)
-{
-    return (size_t)cell[PARADOX_CELL_BEHIND];
 }
 
 /* ---- Memos and other blobs ---- */
@@ -393,14 +375,13 @@ static inline size_t paradox_blob_length(const uint64_t *part)
 /*
  * Writes a value as it is stored in a field of this type code and width, into the first `width` bytes of `buffer`: a
  * cell, or a part of a key to look up. `what` and `value` are as in a cell; the bytes of a text are lent as `text`. Not
- * looked at are the value of a blank or a text, unclean or not, and the bytes lent beside anything but PARADOX_TEXT.
+ * looked at are the value of a blank or a text, and the text beside anything else.
  *
  * Answers PARADOX_ACCEPTED or a refusal. In this order: 13 for a code that is none or a width that it does not permit,
  * or, if the code is no blob's, for a value of another kind; 12 for a blob's code; 14 for a buffer of fewer than
- * `width` bytes; 11 for a value without stored form. A blank suits every kind, a number both number and currency. An
- * unclean text is of a text's kind and has no stored form, whatever its bytes are. A value of no kind is 13 too: `what`
- * neither PARADOX_BLANK to PARADOX_TEXT nor PARADOX_UNCLEAN_TEXT, a short that needs more than 16 bits, a long or a
- * date that needs more than 32, a logical but 0 and 1.
+ * `width` bytes; 11 for a value without stored form. A blank suits every kind, a number both number and currency. A
+ * value of no kind is 13 too: `what` not PARADOX_BLANK to PARADOX_TEXT, a short that needs more than 16 bits, a long or
+ * a date that needs more than 32, a logical but 0 and 1.
  *
  * With a refusal the buffer is as it was. Bytes behind the width never change.
  *

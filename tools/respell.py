@@ -21,7 +21,7 @@ IN_FILE = {"crates/table/proofs/OldLine.antt": {"sum_fits": "sum_fits_lem"}}
 
 def snake(name):
     name = name.replace("-", "_")
-    return re.sub(r"([a-z0-9])([A-Z])", lambda m: m.group(1) + "_" + m.group(2).lower(), name)
+    return re.sub(r"(?<=[A-Za-z0-9])([A-Z])", lambda m: "_" + m.group(1).lower(), name)
 
 
 def antt_files():

@@ -38,7 +38,7 @@ module _ (t : List ℕ) (g : Shape) where
   -- the first record from a number on, reached after at least so many moves
   module _ (back : Cursor) (least : ℕ) (Holds : Step → Type 0) (at_end_lem : Holds (End at_end))
       (outside : Holds (Refused chain_rule back)) (bad : Holds (Refused wrong_count back))
-      (at-record : (b moves n : ℕ) → least ≤ moves → in_reach g b moves ≡ true → count_in t g b ≡ Records (suc n)
+      (at_record : (b moves n : ℕ) → least ≤ moves → in_reach g b moves ≡ true → count_in t g b ≡ Records (suc n)
       → Holds (Record (standing b 0 moves))) where
     turn : (moves b : ℕ) → least ≤ moves →
         (in_reach g b moves ≡ true → Holds (first_from t g back (moves + 1) (next_of t g b))) →
@@ -50,7 +50,7 @@ module _ (t : List ℕ) (g : Shape) where
         by_count_lem ne e Bad k = rw (from_bad t g back moves b ne e k) bad
         by_count_lem ne e (Records zero) k = rw (from_empty t g back moves b ne e 0 k refl) (ih e)
         by_count_lem ne e (Records (suc n)) k =
-            rw (from_record t g back moves b ne e (suc n) k (λ z. omega arith)) (at-record b moves n l e k)
+            rw (from_record t g back moves b ne e (suc n) k (λ z. omega arith)) (at_record b moves n l e k)
 
         by_entry : (b ≡ 0 → ⊥) → (c : Bool) → in_reach g b moves ≡ c → Holds (first_from t g back moves b)
         by_entry ne false e = rw (from_outside t g back moves b ne e) outside

@@ -11,7 +11,7 @@ use Rattle.words.specs.Each.{each}
 use Rattle.words.proofs.Conjunctions.{and_second, and_third}
 use Rattle.header.specs.Stored.{stored_of, unit, encryption_at, area_at, names_at}
 use Rattle.header.specs.Fields.{pair_right, width_sum, offsets_of, names_fit, fields_right}
-use Rattle.header.specs.Refusals.{too_short, not_aTable, unknown_version, encrypted, header_limit}
+use Rattle.header.specs.Refusals.{too_short, not_a_table, unknown_version, encrypted, header_limit}
 use Rattle.header.specs.Refusals.{wrong_length, field_rule, first_broken}
 use Rattle.header.specs.Header.{long_enough, is_table, known_version, unencrypted, limits_kept, length_right}
 use Rattle.header.specs.Header.{most_fields}
@@ -82,9 +82,9 @@ module _ (short : ℕ) (t : List ℕ) (long : ℕ) where
   broken_1 e = answered too_short (rw e)
 
   module _ (k1 : long_enough long ≡ true) where
-    pub broken_2 : is_table (stored_of t) ≡ false → front_answer short t long ≡ refused_with not_aTable
+    pub broken_2 : is_table (stored_of t) ≡ false → front_answer short t long ≡ refused_with not_a_table
     unfolding front_verdict limits_verdict unless_refused
-    broken_2 e = answered not_aTable (rw (k1, e))
+    broken_2 e = answered not_a_table (rw (k1, e))
 
     module _ (k2 : is_table (stored_of t) ≡ true) where
       pub broken_3 : known_version (stored_of t).version ≡ false → front_answer short t long ≡ refused_with unknown_version

@@ -230,9 +230,9 @@ row_takes (row its k l n ∷ rows) d code width kind least most m low high =
     go ih ne (inl e) =
         let code_same : code ≡ its = cc in
         let kind_same : kind ≡ k = cc in
-        let least-same : least ≡ l = cc in
-        let most-same : most ≡ n = cc in
-        rw (eq-eqb code its code_same, ← kind_same, ← least-same, ← most-same)
+        let least_same : least ≡ l = cc in
+        let most_same : most ≡ n = cc in
+        rw (eq-eqb code its code_same, ← kind_same, ← least_same, ← most_same)
         (permit_within kind width least most low high)
     go ih ne (inr later) = rw (ne later) (ih later low high)
 

@@ -1,7 +1,7 @@
 -- Table rules 1 to 7, and the verdict that tries them in this order. Definitions only.
 use Rattle.std.specs.Prelude.{ℕ, ◌+◌, ◌*◌, Bool, cond, not, ◌&&◌, ◌||◌, List, eqb, leb, length}
 use Rattle.words.specs.Zeros.{all_zero}
-use Rattle.header.specs.Refusals.{too_short, not_aTable, unknown_version, encrypted, header_limit}
+use Rattle.header.specs.Refusals.{too_short, not_a_table, unknown_version, encrypted, header_limit}
 use Rattle.header.specs.Refusals.{wrong_length, field_rule, first_broken}
 use Rattle.header.specs.Stored.{stored_of, unit, block_size, encryption_at}
 use Rattle.header.specs.Fields.{fields_right}
@@ -89,7 +89,7 @@ length_right long header blocks units = eqb long (header + blocks * (units * uni
 unfoldable pub limits_verdict : List ℕ → ℕ → ℕ → ℕ
 limits_verdict front long others =
     first_broken (long_enough long) too_short
-    (first_broken (is_table (stored_of front)) not_aTable
+    (first_broken (is_table (stored_of front)) not_a_table
     (first_broken (known_version (stored_of front).version) unknown_version
     (first_broken (unencrypted front (encryption_at (stored_of front).version)) encrypted
     (first_broken (limits_kept (stored_of front)) header_limit others))))

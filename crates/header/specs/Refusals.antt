@@ -6,8 +6,8 @@ use Rattle.std.specs.Prelude.{ℕ, Bool, false, cond, ◌||◌, List, [], ◌∷
 abbrev pub too_short : ℕ
 too_short = 1
 
-abbrev pub not_aTable : ℕ
-not_aTable = 2
+abbrev pub not_a_table : ℕ
+not_a_table = 2
 
 abbrev pub unknown_version : ℕ
 unknown_version = 3
@@ -83,4 +83,4 @@ one_of (m ∷ ms) n = eqb n m || one_of ms n
 
 -- those of rules 1 to 7
 unfoldable pub header_refusals : List ℕ
-header_refusals = too_short ∷ not_aTable ∷ unknown_version ∷ encrypted ∷ header_limit ∷ wrong_length ∷ field_rule ∷ []
+header_refusals = too_short ∷ not_a_table ∷ unknown_version ∷ encrypted ∷ header_limit ∷ wrong_length ∷ field_rule ∷ []

@@ -95,7 +95,7 @@ module _ (t : List ℕ) (g : Shape) (x : List ℕ) (gx : Shape) (key : List ℕ)
         r ≡ reads + length visited → Judged level b reads (found_after r found)
     refused : {n : ℕ} → Meets t g x gx key level b n → Judged level b reads (refused_walk n)
 
-  module _ (size : 1 ≤ g.record_size) (size-x : 1 ≤ gx.record_size) where
+  module _ (size : 1 ≤ g.record_size) (size_x : 1 ≤ gx.record_size) where
     in_data_lem : (b reads : ℕ) → Judged 0 b reads (in_data t g key b reads)
     unfolding in_data by_count
     in_data_lem b reads = by_file (has_block g b) refl
@@ -143,7 +143,7 @@ module _ (t : List ℕ) (g : Shape) (x : List ℕ) (gx : Shape) (key : List ℕ)
             (onward (below x gx key b (entries_in x gx b)) (found_after (reads + 1) Absent)
             (λ (next : ℕ). walk_from t g x gx key level next (reads + 1))))
         by_entries true e ih =
-            refused (bad_index (λ m h l. omega (arith, entries_are x gx b size-x m h, eqb-true (entries_in x gx b) 0 e)))
+            refused (bad_index (λ m h l. omega (arith, entries_are x gx b size_x m h, eqb-true (entries_in x gx b) 0 e)))
         by_entries false e ih = by_led (pos_of_ne-zero (eqb-false (entries_in x gx b) 0 e)) ih (led x gx key b n)
 
     -- what is visited and found, or met, is what the walk answers
@@ -159,10 +159,10 @@ module _ (t : List ℕ) (g : Shape) (x : List ℕ) (gx : Shape) (key : List ℕ)
     visits_take (entry_there {level = level} {b = b} {n = n} {i = i} {visited = visited} {found = found} h p v) reads =
         let e : reads + 1 + length visited ≡ reads + suc (length visited) = omega arith in
         let l : 1 ≤ n = omega (arith, p.inside) in
-        level_on level b reads n (Block (entry_block x gx (length key) b i)) (entries_are x gx b size-x n h) l
+        level_on level b reads n (Block (entry_block x gx (length key) b i)) (entries_are x gx b size_x n h) l
         (below_takes x gx key b n i p) ∙ visits_take v (reads + 1) ∙ ap (λ (r : ℕ). found_after r found) e
     visits_take (entry_missing {level = level} {b = b} {n = n} h l p) reads =
-        level_on level b reads n Nothing (entries_are x gx b size-x n h) l (below_nothing x gx key b n p)
+        level_on level b reads n Nothing (entries_are x gx b size_x n h) l (below_nothing x gx key b n p)
 
     pub meets_take : {level b number : ℕ} → Meets t g x gx key level b number → (reads : ℕ) →
         walk_from t g x gx key level b reads ≡ refused_walk number
@@ -173,12 +173,12 @@ module _ (t : List ℕ) (g : Shape) (x : List ℕ) (gx : Shape) (key : List ℕ)
     meets_take (bad_index {level = level} {b = b} o) reads = rw (eq-eqb (entries_in x gx b) 0 (entries_none x gx b o))
     meets_take (lower {level = level} {b = b} {n = n} {i = i} h p m) reads =
         let l : 1 ≤ n = omega (arith, p.inside) in
-        level_on level b reads n (Block (entry_block x gx (length key) b i)) (entries_are x gx b size-x n h) l
+        level_on level b reads n (Block (entry_block x gx (length key) b i)) (entries_are x gx b size_x n h) l
         (below_takes x gx key b n i p) ∙ meets_take m (reads + 1)
 
     -- one block, held as n and as m entries, has one last entry or none
     held_once : {b n m : ℕ} → BlockHolds x gx b n → BlockHolds x gx b m → n ≡ m
-    held_once {b} {n} {m} h k = sym (entries_are x gx b size-x n h) ∙ entries_are x gx b size-x m k
+    held_once {b} {n} {m} h k = sym (entries_are x gx b size_x n h) ∙ entries_are x gx b size_x m k
 
     same_entry : {b n m i k : ℕ} → BlockHolds x gx b n → LastEntry x gx key b n i → BlockHolds x gx b m →
         LastEntry x gx key b m k → i ≡ k

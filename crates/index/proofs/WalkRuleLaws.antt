@@ -68,17 +68,17 @@ module _ (t : List ℕ) (g : Shape) (x : List ℕ) (i : IndexHeader) (key : List
   root_answer (rootless z) n e = apart cc
   root_answer (rooted ne v) n e = visits_answer t g x i.shape key v n e
 
-  module _ (size : 1 ≤ g.record_size) (size-x : 1 ≤ i.shape.record_size) where
+  module _ (size : 1 ≤ g.record_size) (size_x : 1 ≤ i.shape.record_size) where
     root_takes : {visited : List ℕ} {found : Found} → RootVisits t g x i key visited found →
         walk_tree t g x i key ≡ found_after (length visited) found
     unfolding walk_tree
     root_takes (rootless z) = rw (eq-eqb i.root 0 z)
     root_takes (rooted ne v) =
-        rw (ne_eqb i.root 0 ne) (visits_take t g x i.shape key size size-x v 0 ∙ rw zero-add)
+        rw (ne_eqb i.root 0 ne) (visits_take t g x i.shape key size size_x v 0 ∙ rw zero-add)
 
     root_meets : {number : ℕ} → RootMeets t g x i key number → walk_tree t g x i key ≡ refused_walk number
     unfolding walk_tree
-    root_meets m = rw (ne_eqb i.root 0 m.not_rootless) (meets_take t g x i.shape key size size-x m.meets 0)
+    root_meets m = rw (ne_eqb i.root 0 m.not_rootless) (meets_take t g x i.shape key size size_x m.meets 0)
 
     -- no other index blocks are visited
     root_once : {visited others : List ℕ} {found other : Found} → RootVisits t g x i key visited found →
@@ -86,7 +86,7 @@ module _ (t : List ℕ) (g : Shape) (x : List ℕ) (i : IndexHeader) (key : List
     root_once (rootless z) (rootless y) = refl
     root_once (rootless z) (rooted ne v) = absurd (ne z)
     root_once (rooted ne v) (rootless z) = absurd (ne z)
-    root_once (rooted ne v) (rooted other w) = visits_once t g x i.shape key size size-x v w
+    root_once (rooted ne v) (rooted other w) = visits_once t g x i.shape key size size_x v w
 
     root_judged : RootJudged (walk_tree t g x i key)
     unfolding walk_tree
@@ -100,7 +100,7 @@ module _ (t : List ℕ) (g : Shape) (x : List ℕ) (i : IndexHeader) (key : List
         go : (c : Bool) → eqb i.root 0 ≡ c → RootJudged (cond c (found_after 0 Absent) (from_root t g x i key))
         go true e = found_by {r = 0} (rootless (eqb-true i.root 0 e)) refl
         go false e =
-            from_root_lem (eqb-false i.root 0 e) (judged t g x i.shape key size size-x i.levels i.root 0)
+            from_root_lem (eqb-false i.root 0 e) (judged t g x i.shape key size size_x i.levels i.root 0)
 
 -- ---- the refusals before the walk
 

@@ -165,7 +165,7 @@ module _ (t x : List ℕ) (s : Shapes) (often : ℕ → ℕ) where
     passes : (d : ℕ) → whole ≡ Next d → more + left t g d ≤ left t g c
     paid : (d : ℕ) → whole ≡ Next d → looked + weight * left t g d ≤ weight * left t g c
 
-  module _ (level : ℕ) (each-cost : (e : Entry) (c : ℕ) → GoodFrom t g c → EntryCost level e c) (b from : ℕ)
+  module _ (level : ℕ) (each_cost : (e : Entry) (c : ℕ) → GoodFrom t g c → EntryCost level e c) (b from : ℕ)
       (good : GoodFrom t g from) where
     abbrev RestCost : ℕ → ℕ → ℕ → Type 0
     RestCost i more c =
@@ -186,7 +186,7 @@ module _ (t x : List ℕ) (s : Shapes) (often : ℕ → ℕ) where
     rest_cost (suc more) i c u = go (entry_from_at t x s level b i c) refl (rest_cost more (suc i))
       where
         cost : EntryCost level (entry_at x gx n b i) c
-        cost = each-cost (entry_at x gx n b i) c (up_to_good t x s level b i from c good u)
+        cost = each_cost (entry_at x gx n b i) c (up_to_good t x s level b i from c good u)
 
         go : (f : Fit) → entry_from_at t x s level b i c ≡ f →
             ((d : ℕ) → up_to t x s level b (suc i) from ≡ Next d → RestCost (suc i) more d) → RestCost i (suc more) c

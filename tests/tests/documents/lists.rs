@@ -69,17 +69,16 @@ pub fn numbers_of(file: &str, name: &str) -> Vec<u32> {
         .collect()
 }
 
-/// The file from which a source takes a name: `use Rattle·table.specs.Table.{tableRefusals}`.
+/// The file from which a source takes a name: `use Rattle.table.specs.Table.{table_refusals}`.
 fn origin(source: &str, name: &str) -> Option<String> {
     let mut imports = source
         .lines()
-        .filter_map(|line| line.strip_prefix("use Rattle·")?.split_once(".{"));
+        .filter_map(|line| line.strip_prefix("use Rattle.")?.split_once(".{"));
     let (module, _) = imports.find(|(_, names)| {
         let mut names = names.trim_end_matches('}').split(", ");
         names.any(|each| each == name)
     })?;
     let (owner, path) = module.split_once(".specs.")?;
-    let owner = owner.trim_end_matches("·specs");
     Some(format!("{owner}/specs/{path}.antt"))
 }
 

@@ -171,7 +171,7 @@ fn refusals_are_those_of_the_lists() {
         for name in &row.list {
             listed.extend(numbers_of(name.files[0], name.text));
             if !states
-                .split(|c: char| !c.is_alphanumeric())
+                .split(|c: char| !(c.is_alphanumeric() || c == '_'))
                 .any(|word| word == name.text)
             {
                 complaints.push(format!("{GUARANTEES}: {law} does not name {}", name.text));

@@ -18,12 +18,12 @@ pub fn read(path: &str) -> String {
     fs::read_to_string(root().join(path)).unwrap_or_else(|error| panic!("{path}: {error}"))
 }
 
-/// The crates of crates.txt.
+/// The crates of crates.txt; a static library has that word behind its name.
 pub fn crates() -> Vec<String> {
     let lines = read("crates.txt");
     let named = lines.lines().filter(|line| !line.starts_with('#'));
     named
-        .filter_map(|line| Some(line.split_once(':')?.0.to_string()))
+        .filter_map(|line| Some(line.split_once(':')?.0.trim_end_matches(" staticlib").to_string()))
         .collect()
 }
 
@@ -124,9 +124,10 @@ pub fn head_of(call: &str) -> Option<String> {
 /// Whether a function is in a crate's root, or named there for its users.
 fn hands_out(owner: &str, name: &str) -> bool {
     let lib = read(&format!("crates/{owner}/src/lib.rt"));
-    let used = format!("::{name};");
     lib.lines().any(|line| {
-        declares_function(line, name) || line.starts_with("pub use") && line.ends_with(&used)
+        let used = line.strip_prefix("pub use ").unwrap_or_default();
+        let mut names = used.split(|c: char| !(c.is_alphanumeric() || c == '_'));
+        declares_function(line, name) || names.any(|each| each == name)
     })
 }
 
