@@ -12,7 +12,7 @@ PARADOX_LIB ?= target/staticlib
 BUILT_ARCHIVE = target/staticlib/libparadox.a
 ARCHIVE = $(PARADOX_LIB)/libparadox.a
 LISTER = target/bin/lister
-SOURCES = crates.txt $(shell find crates -name '*.rt' -o -name '*.antt')
+SOURCES = crates.txt $(shell find crates -name out -prune -o \( -name '*.rt' -o -name '*.antt' \) -print)
 
 # For `make soak`: how many cases, and the seed they come from (the present second, if none is given).
 COUNT ?= 200000
@@ -36,7 +36,7 @@ make soak COUNT=.. SEED=..        compare the library and the lister with the Ru
 make bench                        measure the calls beside the Rust model
 make install PREFIX=..            install archive, header, manual and pkg-config file (DESTDIR is honoured)
 make uninstall PREFIX=..          remove them
-make clean                        remove target/, proofs included
+make clean                        remove target/, and what rt keeps of proofs in crates/*/out
 endef
 
 define PKG_CONFIG_FILE
@@ -118,7 +118,7 @@ uninstall:
 	rm -f $(DESTDIR)$(abspath $(LIBDIR))/pkgconfig/paradox.pc $(DESTDIR)$(abspath $(DOCDIR))/MANUAL.md
 
 clean:
-	rm -rf target
+	rm -rf target crates/*/out
 
 $(BUILT_ARCHIVE): $(SOURCES)
 	@$(NEED_RT)
