@@ -4,6 +4,7 @@ use mathlib.Core.Path.{◌≡◌, refl, sym, ap, ◌∙◌}
 use mathlib.Core.Bool.{Bool, true, false, cond, ◌&&◌}
 use mathlib.Core.Logic.{◌⊎◌, inl, inr, ⊎_elim}
 use mathlib.Core.List.{List}
+use Rattle.std.specs.Prelude.{Option, Some, None, Ok, Err}
 use Prim.Native.Nat.{ℕ, ◌+◌, ◌%◌, ◌≤◌, ◌<◌}
 use native.Mathlib.Omega.{arith}
 use lib.Dec.{eqb, leb, ltb}
@@ -11,18 +12,20 @@ use lib.ListN.{length}
 use borrow.Author.Tests.{eqb-true, leb-true, ltb-true, eq-eqb, le-leb}
 use Rattle.words.proofs.Conjunctions.{both}
 use Rattle.words.proofs.Cases.{apart, either}
-use Rattle.header.specs.Refusals.{unfit_blob}
-use Rattle.blob.specs.Mb.{low_byte, base_of, mb_unit, on_unit, block_kind, units_at, mb_block_size, block_inside}
-use Rattle.blob.specs.Mb.{own_low_byte, own_kind, own_head, own_length, own_stated, sub_kind, entries, entry_place, entry_begin}
+use Rattle.words.specs.declared.part.Part.{Part}
+use Rattle.header.specs.declared.refusal.Refusal.TheVariants.{UnfitBlob}
+use Rattle.blob.specs.Mb.{stated_is, low_byte, base_of, mb_unit, on_unit, block_kind, units_at, mb_block_size}
+use Rattle.blob.specs.Mb.{block_inside}
+use Rattle.blob.specs.Mb.{own_low_byte, own_kind, own_head, own_length, own_stated, sub_kind, entries, entry_place}
+use Rattle.blob.specs.Mb.{entry_begin}
 use Rattle.blob.specs.Mb.{entry_length, entry_used, entry_blob, entry_stated, stated_at}
-use Rattle.blob.specs.Blob.{body_with, body_of}
+use Rattle.blob.specs.Blob.{Answer, part, body_with, body_of}
 use Rattle.blob.specs.Rules.{OwnBlock, SubBlock, BlobRules}
 use Rattle.blob.specs.declared.mb.Stated.{Stated}
-use Rattle.blob.specs.declared.mb.Stated.TheVariants.{Is, Nothing}
-use Rattle.blob.specs.declared.answer.Blob.{Blob}
-use Rattle.blob.specs.declared.answer.Blob.TheVariants.{InMb, Refused}
-use Rattle.blob.proofs.MbLaws.{own_states, entry_states, low_own, low_entry, entry_used_lem, used_gives, used_takes}
-use Rattle.blob.proofs.BlobLaws.{body_inside}
+use Rattle.blob.specs.declared.answer.Blob.TheVariants.{InMb}
+use Rattle.blob.proofs.MbLaws.{stated_same, own_states, entry_states, low_own, low_entry, entry_used_lem, used_gives}
+use Rattle.blob.proofs.MbLaws.{used_takes}
+use Rattle.blob.proofs.BlobLaws.{in_mb_same, body_inside}
 
 -- ---- what a block states
 
@@ -30,55 +33,58 @@ module _ (mb : List ℕ) (base low begin len : ℕ) where
   abbrev States : Type 0
   States = OwnBlock mb base low begin len ⊎ SubBlock mb base low begin len
 
-  own_gives : low ≡ own_low_byte → own_stated mb base ≡ Is begin len → States
+  own_gives : low ≡ own_low_byte → own_stated mb base ≡ stated_is begin len → States
   unfolding own_stated
   own_gives l = go (eqb (block_kind mb base) own_kind) refl
     where
       go : (b : Bool) → eqb (block_kind mb base) own_kind ≡ b
-          → cond b (Is own_head (own_length mb base)) Nothing ≡ Is begin len → States
+          → cond b (stated_is own_head (own_length mb base)) None ≡ stated_is begin len → States
       go false k e = apart cc
-      go true k e = inl (record { own = l; kind = eqb-true (block_kind mb base) own_kind k; begins = cc; states = cc })
+      go true k e =
+          let p = stated_same e in
+          inl (record { own = l; kind = eqb-true (block_kind mb base) own_kind k; begins = sym p.0; states = sym p.1 })
 
-  entry_gives : low < entries → entry_stated mb base low ≡ Is begin len → States
+  entry_gives : low < entries → entry_stated mb base low ≡ stated_is begin len → States
   unfolding entry_stated entry_blob
   entry_gives l = go (eqb (block_kind mb base) sub_kind) refl (entry_used mb (entry_place base low)) refl
     where
       go : (b : Bool) → eqb (block_kind mb base) sub_kind ≡ b → (u : Bool) → entry_used mb (entry_place base low) ≡ u
-          → cond b (cond u (Is (entry_begin mb (entry_place base low)) (entry_length mb (entry_place base low))) Nothing)
-          Nothing
-          ≡ Is begin len → States
+          → cond b
+          (cond u (stated_is (entry_begin mb (entry_place base low)) (entry_length mb (entry_place base low))) None)
+          None
+          ≡ stated_is begin len → States
       go false k u w e = apart cc
       go true k false w e = apart cc
       go true k true w e =
           let a = entry_place base low in
           let g = used_gives mb a w in
-          let f : entry_begin mb a ≡ begin = cc in
+          let p = stated_same e in
           inr
           (record {
             number = l;
             kind = eqb-true (block_kind mb base) sub_kind k;
-            begins = sym f;
+            begins = sym p.0;
             some = g.0;
             least = g.1;
             most = g.2;
-            states = cc;
-            behind = omega (arith, g.3, f);
+            states = sym p.1;
+            behind = omega (arith, g.3, p.0);
           })
 
-  pub stated_gives : stated_at mb base low ≡ Is begin len → States
+  pub stated_gives : stated_at mb base low ≡ stated_is begin len → States
   unfolding stated_at
   stated_gives = go (eqb low own_low_byte) refl (ltb low entries) refl
     where
       go : (b : Bool) → eqb low own_low_byte ≡ b → (c : Bool) → ltb low entries ≡ c
-          → cond b (own_stated mb base) (cond c (entry_stated mb base low) Nothing) ≡ Is begin len → States
+          → cond b (own_stated mb base) (cond c (entry_stated mb base low) None) ≡ stated_is begin len → States
       go true k c l e = own_gives (eqb-true low own_low_byte k) e
       go false k true l e = entry_gives (ltb-true low entries l) e
       go false k false l e = apart cc
 
-  own_takes : OwnBlock mb base low begin len → stated_at mb base low ≡ Is begin len
+  own_takes : OwnBlock mb base low begin len → stated_at mb base low ≡ stated_is begin len
   own_takes r = sym (rw (r.begins, r.states) (own_states mb base r.kind ∙ low_own mb base low r.own))
 
-  entry_takes : SubBlock mb base low begin len → stated_at mb base low ≡ Is begin len
+  entry_takes : SubBlock mb base low begin len → stated_at mb base low ≡ stated_is begin len
   entry_takes r =
       let a = entry_place base low in
       let u = used_takes mb a r.some r.least r.most (omega (arith, r.begins, r.behind)) in
@@ -86,7 +92,7 @@ module _ (mb : List ℕ) (base low begin len : ℕ) where
       (rw (r.begins, r.states)
       (entry_used_lem mb a u ∙ entry_states mb base low r.kind ∙ low_entry mb base low r.number))
 
-  pub stated_takes : States → stated_at mb base low ≡ Is begin len
+  pub stated_takes : States → stated_at mb base low ≡ stated_is begin len
   stated_takes = ⊎_elim own_takes entry_takes
 
 -- ---- the body
@@ -98,40 +104,44 @@ module _ (mb : List ℕ) (offset len : ℕ) where
   abbrev Gives : ℕ → ℕ → Type 0
   Gives start its = (its ≡ len) × (begin : ℕ) × (start ≡ base + begin) × BlobRules mb offset len begin
 
-  with_gives : base % mb_unit ≡ 0 → 1 ≤ units_at mb base → base + mb_block_size mb base ≤ length mb → (d : Stated)
-      → stated_at mb base (low_byte offset) ≡ d → (start its : ℕ) → body_with mb base len d ≡ InMb start its
-      → Gives start its
+  with_gives : base % mb_unit ≡ 0 → 1 ≤ units_at mb base → base + mb_block_size mb base ≤ length mb
+      → (d : Option Stated) → stated_at mb base (low_byte offset) ≡ d → (start its : ℕ)
+      → body_with mb base len d ≡ Ok (InMb (part start its)) → Gives start its
   unfolding body_with
-  with_gives k u l Nothing s start its e = apart cc
-  with_gives k u l (Is begin n) s start its e =
-      go (eqb n len && leb (begin + n) (mb_block_size mb base)) refl e
+  with_gives k u l None s start its e = apart cc
+  with_gives k u l (Some d) s start its e =
+      go (eqb d.len len && leb (d.begin + d.len) (mb_block_size mb base)) refl e
     where
-      go : (b : Bool) → (eqb n len && leb (begin + n) (mb_block_size mb base)) ≡ b
-          → cond b (InMb (base + begin) n) (Refused unfit_blob) ≡ InMb start its → Gives start its
+      go : (b : Bool) → (eqb d.len len && leb (d.begin + d.len) (mb_block_size mb base)) ≡ b
+          → cond b (Ok (InMb (part (base + d.begin) d.len))) (Err UnfitBlob) ≡ Ok (InMb (part start its))
+          → Gives start its
       go false t e = apart cc
       go true t e =
           let p = both t in
-          let q : n ≡ len = eqb-true n len p.0 in
-          let i = leb-true (begin + n) (mb_block_size mb base) p.1 in (
-            cc,
-            begin,
-            cc,
+          let q : d.len ≡ len = eqb-true d.len len p.0 in
+          let i = leb-true (d.begin + d.len) (mb_block_size mb base) p.1 in
+          let r = in_mb_same e in (
+            sym r.1 ∙ q,
+            d.begin,
+            sym r.0,
             record {
               multiple = k;
               units = u;
               block = l;
-              stated = stated_gives mb base (low_byte offset) begin len (s ∙ ap {B = Stated} (λ (m : ℕ). Is begin m) q);
+              stated =
+                  stated_gives mb base (low_byte offset) d.begin len
+                  (s ∙ ap {B = Option Stated} (λ (m : ℕ). stated_is d.begin m) q);
               inside = omega (arith, i, q);
             },
           )
 
-  pub body_gives : (start its : ℕ) → body_of mb offset len ≡ InMb start its → Gives start its
+  pub body_gives : (start its : ℕ) → body_of mb offset len ≡ Ok (InMb (part start its)) → Gives start its
   unfolding body_of
   body_gives start its = go (on_unit base && block_inside mb base) refl
     where
       go : (b : Bool) → (on_unit base && block_inside mb base) ≡ b
-          → cond b (body_with mb base len (stated_at mb base (low_byte offset))) (Refused unfit_blob) ≡ InMb start its
-          → Gives start its
+          → cond b (body_with mb base len (stated_at mb base (low_byte offset))) (Err UnfitBlob)
+          ≡ Ok (InMb (part start its)) → Gives start its
       go false t e = apart cc
       go true t e =
           let p = both t in
@@ -141,23 +151,25 @@ module _ (mb : List ℕ) (offset len : ℕ) where
           e
 
   with_fits : (begin : ℕ) → begin + len ≤ mb_block_size mb base
-      → body_with mb base len (Is begin len) ≡ InMb (base + begin) len
+      → body_with mb base len (stated_is begin len) ≡ Ok (InMb (part (base + begin) len))
   unfolding body_with
   with_fits begin l = rw (eq-eqb len len refl, le-leb (begin + len) (mb_block_size mb base) l)
 
-  pub body_takes : (begin : ℕ) → BlobRules mb offset len begin → body_of mb offset len ≡ InMb (base + begin) len
+  pub body_takes : (begin : ℕ) → BlobRules mb offset len begin →
+      body_of mb offset len ≡ Ok (InMb (part (base + begin) len))
   body_takes begin r =
       sym (body_inside mb offset len r.multiple r.units r.block)
       ∙ ap (body_with mb base len) (stated_takes mb base (low_byte offset) begin len r.stated)
       ∙ with_fits begin r.inside
 
   -- what holds of every part of the MB file and of 18, holds of the body
-  module _ (Holds : Blob → Type 0) (part : (start its : ℕ) → Holds (InMb start its))
-      (unfit : Holds (Refused unfit_blob)) where
-    with_holds : (d : Stated) → Holds (body_with mb base len d)
+  module _ (Holds : Answer → Type 0) (mb_part : (p : Part) → Holds (Ok (InMb p)))
+      (unfit : Holds (Err UnfitBlob)) where
+    with_holds : (d : Option Stated) → Holds (body_with mb base len d)
     unfolding body_with
-    with_holds Nothing = unfit
-    with_holds (Is begin n) = either Holds (eqb n len && leb (begin + n) (mb_block_size mb base)) _ _ (part _ _) unfit
+    with_holds None = unfit
+    with_holds (Some s) =
+        either Holds (eqb s.len len && leb (s.begin + s.len) (mb_block_size mb base)) _ _ (mb_part _) unfit
 
     pub body_holds : Holds (body_of mb offset len)
     unfolding body_of

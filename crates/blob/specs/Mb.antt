@@ -1,9 +1,8 @@
 -- The MB file (source document 001): the block that a cell's offset gives, and the blob that it states. Of the file's
 -- own header, of modification numbers and of what else stands in a block nothing is judged. Definitions only.
-use Rattle.std.specs.Prelude.{ℕ, ◌+◌, ◌-◌, ◌*◌, ◌%◌, Bool, cond, ◌&&◌, List, eqb, leb, ltb, length}
+use Rattle.std.specs.Prelude.{ℕ, ◌+◌, ◌-◌, ◌*◌, ◌%◌, Bool, cond, ◌&&◌, List, eqb, leb, ltb, length, Option, Some, None}
 use Rattle.words.specs.Numbers.{byte, word, long}
 use Rattle.blob.specs.declared.mb.Stated.{Stated}
-use Rattle.blob.specs.declared.mb.Stated.TheVariants.{Is, Nothing}
 
 -- ---- the offset
 
@@ -39,6 +38,12 @@ mb_block_size mb base = mb_unit * units_at mb base
 abbrev pub block_inside : List ℕ → ℕ → Bool
 block_inside mb base = leb 1 (units_at mb base) && leb (base + mb_block_size mb base) (length mb)
 
+-- ---- a blob that a block states
+
+-- by where it begins in the block, and its length
+abbrev pub stated_is : ℕ → ℕ → Option Stated
+stated_is begin len = Some (record { begin = begin; len = len })
+
 -- ---- a block of its own: behind kind and units the blob's length, 4 bytes, and a modification number
 
 abbrev pub own_low_byte : ℕ
@@ -55,8 +60,8 @@ abbrev pub own_head : ℕ
 own_head = 9
 
 -- the blob that it states, where it is such a block
-unfoldable pub own_stated : List ℕ → ℕ → Stated
-own_stated mb base = cond (eqb (block_kind mb base) own_kind) (Is own_head (own_length mb base)) Nothing
+unfoldable pub own_stated : List ℕ → ℕ → Option Stated
+own_stated mb base = cond (eqb (block_kind mb base) own_kind) (stated_is own_head (own_length mb base)) None
 
 -- ---- a suballocated block: a head of 12 bytes, 64 entries of 5 bytes, blobs in units of 16 bytes
 
@@ -108,16 +113,16 @@ entry_used mb e =
     && leb entries_end (entry_begin mb e)
 
 -- the blob that the entry at e states
-unfoldable pub entry_blob : List ℕ → ℕ → Stated
-entry_blob mb e = cond (entry_used mb e) (Is (entry_begin mb e) (entry_length mb e)) Nothing
+unfoldable pub entry_blob : List ℕ → ℕ → Option Stated
+entry_blob mb e = cond (entry_used mb e) (stated_is (entry_begin mb e) (entry_length mb e)) None
 
 -- the blob that entry i states, where it is such a block
-unfoldable pub entry_stated : List ℕ → ℕ → ℕ → Stated
-entry_stated mb base i = cond (eqb (block_kind mb base) sub_kind) (entry_blob mb (entry_place base i)) Nothing
+unfoldable pub entry_stated : List ℕ → ℕ → ℕ → Option Stated
+entry_stated mb base i = cond (eqb (block_kind mb base) sub_kind) (entry_blob mb (entry_place base i)) None
 
 -- ---- what an offset gives
 
 -- the blob that the block at a base states, by the offset's low byte; 40 to FE name nothing
-unfoldable pub stated_at : List ℕ → ℕ → ℕ → Stated
+unfoldable pub stated_at : List ℕ → ℕ → ℕ → Option Stated
 stated_at mb base low =
-    cond (eqb low own_low_byte) (own_stated mb base) (cond (ltb low entries) (entry_stated mb base low) Nothing)
+    cond (eqb low own_low_byte) (own_stated mb base) (cond (ltb low entries) (entry_stated mb base low) None)

@@ -4,7 +4,8 @@ use Rattle.header.specs.declared.Header.{Header}
 use Rattle.header.specs.declared.kind.FieldKind.TheVariants.{Blob}
 use Rattle.cell.specs.Locating.{BothSteps}
 use Rattle.blob.specs.Leader.{leader_size, offset_at, length_at}
-use Rattle.blob.specs.Mb.{low_byte, base_of, mb_unit, block_kind, units_at, mb_block_size, own_low_byte, own_kind, own_head}
+use Rattle.blob.specs.Mb.{low_byte, base_of, mb_unit, block_kind, units_at, mb_block_size, own_low_byte, own_kind}
+use Rattle.blob.specs.Mb.{own_head}
 use Rattle.blob.specs.Mb.{own_length, sub_kind, sub_unit, entries, entries_end, entry_place, entry_begin, entry_units}
 use Rattle.blob.specs.Mb.{entry_last, entry_length}
 

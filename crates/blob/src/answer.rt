@@ -1,10 +1,10 @@
-// What asking for a blob answers.
+// What asking for a blob gives.
+use words::Part;
 
-// A blob: blank; a part of the table or of the MB file, by where it begins there and its length; or a refusal's number.
+// A blob: blank; or a part of the table or of the MB file.
 #[derive(Clone, Copy)]
 pub enum Blob {
     Blank,
-    InTable { start: usize, len: usize },
-    InMb { start: usize, len: usize },
-    Refused(u8),
+    InTable(Part),
+    InMb(Part),
 }

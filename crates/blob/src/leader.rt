@@ -6,6 +6,8 @@ ghost use Rattle.blob.specs.Leader.{behind_leader};
 
 use crate::answer::Blob;
 use crate::mb;
+use header::Refusal;
+use words::Part;
 
 // Behind the leader: so many bytes, of which the length stands behind the offset.
 const BEHIND_LEADER: usize = 10;
@@ -14,20 +16,20 @@ const LENGTH: usize = 4;
 
 // The blob of the cell of `width` bytes at a place in the table. The module is private.
 // A helper and no call for users: `find_in`, its caller, has located the cell.
-pub fn blob_at(table: &[u8], mb: &[u8], at: usize, width: usize) -> Blob
+pub fn blob_at(table: &[u8], mb: &[u8], at: usize, width: usize) -> Result<Blob, Refusal>
     requires { (behind_leader ≤ width) × (at + width ≤ length table.now) }
     ensures { result ≡ blob_at table.now mb.now at width }
 {
     if words::all_zero(table, at, width) {
-        return Blob::Blank;
+        return Ok(Blob::Blank);
     }
     let leader = width - BEHIND_LEADER;
     let len = words::long(table, at + leader + LENGTH);
     if len as usize <= leader {
-        return Blob::InTable {
+        return Ok(Blob::InTable(Part {
             start: at,
             len: len as usize,
-        };
+        }));
     }
     mb::body(mb, words::long(table, at + leader), len)
 }

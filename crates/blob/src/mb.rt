@@ -6,13 +6,14 @@ ghost use Rattle.blob.specs.Mb.{entries, entry_blob, entry_size, entry_stated, m
 ghost use Rattle.blob.specs.Steps.{size_in};
 
 use crate::answer::Blob;
-use header::refusal;
+use header::Refusal;
+use words::Part;
 
 // The blob that a block states: where it begins in the block, and its length.
 #[derive(Clone, Copy)]
-pub enum Stated {
-    Is { begin: u32, len: u32 },
-    Nothing,
+pub struct Stated {
+    pub begin: u32,
+    pub len: u32,
 }
 
 // Blocks begin at multiples of the unit and are so many units long.
@@ -51,37 +52,41 @@ const ENTRY_LAST: usize = 4;
 
 const ENTRY_UNIT: u32 = 16;
 
-// The length of the block at a base; 0 for a block of no units, or one that is not inside the file.
-fn size_in(mb: &[u8], base: usize) -> usize
+// The length of the block at a base; None for a block of no units, or one that is not inside the file.
+fn size_in(mb: &[u8], base: usize) -> Option<usize>
     requires { base < 4294967296 }
     ensures { result ≡ size_in mb.now base }
 {
     if mb.len() < base + UNIT {
-        return 0;
+        return None;
     }
-    let size = UNIT * (words::word(mb, base + UNITS) as usize);
+    let units = words::word(mb, base + UNITS) as usize;
+    if units == 0 {
+        return None;
+    }
+    let size = UNIT * units;
     if mb.len() < base + size {
-        return 0;
+        return None;
     }
-    size
+    Some(size)
 }
 
 // The blob of a block of its own.
-fn own_stated(mb: &[u8], base: usize) -> Stated
+fn own_stated(mb: &[u8], base: usize) -> Option<Stated>
     requires { base + mb_unit ≤ length mb.now }
     ensures { result ≡ own_stated mb.now base }
 {
     if mb[base] != OWN_KIND {
-        return Stated::Nothing;
+        return None;
     }
-    Stated::Is {
+    Some(Stated {
         begin: OWN_HEAD,
         len: words::long(mb, base + OWN_LENGTH),
-    }
+    })
 }
 
 // The blob of the entry at `e`.
-fn entry_blob(mb: &[u8], e: usize) -> Stated
+fn entry_blob(mb: &[u8], e: usize) -> Option<Stated>
     requires { e + entry_size ≤ length mb.now }
     ensures { result ≡ entry_blob mb.now e }
 {
@@ -89,27 +94,27 @@ fn entry_blob(mb: &[u8], e: usize) -> Stated
     let units = mb[e + ENTRY_UNITS] as u32;
     let last = mb[e + ENTRY_LAST] as u32;
     if (1 <= units) & (1 <= last) & (last <= ENTRY_UNIT) & (ENTRIES_END <= begin) {
-        return Stated::Is {
+        return Some(Stated {
             begin,
             len: ENTRY_UNIT * (units - 1) + last,
-        };
+        });
     }
-    Stated::Nothing
+    None
 }
 
 // The blob of entry `i` of a suballocated block.
-fn entry_stated(mb: &[u8], base: usize, i: usize) -> Stated
+fn entry_stated(mb: &[u8], base: usize, i: usize) -> Option<Stated>
     requires { (base + mb_unit ≤ length mb.now) × (i < entries) }
     ensures { result ≡ entry_stated mb.now base i }
 {
     if mb[base] != SUBALLOCATED {
-        return Stated::Nothing;
+        return None;
     }
     entry_blob(mb, base + FIRST_ENTRY + ENTRY * i)
 }
 
 // The blob that the low byte of an offset names in the block at a base.
-fn stated_at(mb: &[u8], base: usize, low: u32) -> Stated
+fn stated_at(mb: &[u8], base: usize, low: u32) -> Option<Stated>
     requires { base + mb_unit ≤ length mb.now }
     ensures { result ≡ stated_at mb.now base low }
 {
@@ -119,30 +124,25 @@ fn stated_at(mb: &[u8], base: usize, low: u32) -> Stated
     if low < ENTRIES {
         return entry_stated(mb, base, low as usize);
     }
-    Stated::Nothing
+    None
 }
 
 // The blob of an offset and a length: the part of the file that it is, or 18.
-pub fn body(mb: &[u8], offset: u32, len: u32) -> Blob
+pub fn body(mb: &[u8], offset: u32, len: u32) -> Result<Blob, Refusal>
     ensures { result ≡ body_of mb.now offset len }
 {
     let low = offset % LOW;
     let base = (offset - low) as usize;
     if base % UNIT != 0 {
-        return Blob::Refused(refusal::UNFIT_BLOB);
+        return Err(Refusal::UnfitBlob);
     }
-    let size = size_in(mb, base);
-    if size == 0 {
-        return Blob::Refused(refusal::UNFIT_BLOB);
+    let size = size_in(mb, base).ok_or(Refusal::UnfitBlob)?;
+    let stated = stated_at(mb, base, low).ok_or(Refusal::UnfitBlob)?;
+    if (stated.len == len) & (stated.begin as usize + stated.len as usize <= size) {
+        return Ok(Blob::InMb(Part {
+            start: base + stated.begin as usize,
+            len: stated.len as usize,
+        }));
     }
-    let Stated::Is { begin, len: its } = stated_at(mb, base, low) else {
-        return Blob::Refused(refusal::UNFIT_BLOB);
-    };
-    if (its == len) & (begin as usize + its as usize <= size) {
-        return Blob::InMb {
-            start: base + begin as usize,
-            len: its as usize,
-        };
-    }
-    Blob::Refused(refusal::UNFIT_BLOB)
+    Err(Refusal::UnfitBlob)
 }

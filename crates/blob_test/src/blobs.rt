@@ -1,34 +1,31 @@
 // A blob as text: `blank`, `table 2 at 1033`, `mb 39 at 4688`, `!18` for refusal 18. Behind it stand its bytes, `[ab]`.
 use blob::Blob;
-use test_lines::print::{decimal, letter, say};
+use header::Refusal;
+use test_lines::print::{letter, number, refused, say};
+use words::Part;
 
 // No more bytes are shown.
 const SHOWN: usize = 64;
 
-fn part(file: &[u8], start: usize, len: usize) {
+fn part(file: &[u8], place: Part) {
     say(file);
-    decimal(len as u64);
+    number(place.len as u64);
     say(b" at ");
-    decimal(start as u64);
+    number(place.start as u64);
 }
 
-fn refused(n: u8) {
-    letter(b'!');
-    decimal(n as u64);
-}
-
-fn answer(b: Blob) {
-    match b {
-        Blob::Blank => say(b"blank"),
-        Blob::InTable { start, len } => part(b"table ", start, len),
-        Blob::InMb { start, len } => part(b"mb ", start, len),
-        Blob::Refused(n) => refused(n),
+fn answer(blob: Result<Blob, Refusal>) {
+    match blob {
+        Ok(Blob::Blank) => say(b"blank"),
+        Ok(Blob::InTable(place)) => part(b"table ", place),
+        Ok(Blob::InMb(place)) => part(b"mb ", place),
+        Err(refusal) => refused(refusal),
     }
 }
 
 // The bytes of a blob; an empty part is left out, and a long one.
 fn bytes(s: &[u8]) {
-    if (s.len() == 0) | (SHOWN < s.len()) {
+    if s.is_empty() | (SHOWN < s.len()) {
         return;
     }
     letter(b' ');

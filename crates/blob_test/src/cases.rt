@@ -3,7 +3,8 @@
 // The table stands from 0 on, the MB file from 2000 on.
 use crate::blobs::show;
 use test_lines::after::after;
-use test_lines::lines::{Buffer, Line, SIZE, behind, end, fresh, part, step};
+use test_lines::cases::Cases;
+use test_lines::lines::{Buffer, Line, behind, part};
 
 const MB: usize = 0x2000;
 
@@ -12,44 +13,33 @@ const TABLE_LENT: usize = 0x800;
 
 const MB_LENT: usize = 0x4000;
 
-// A new line.
-fn ready() -> Line {
-    let mut l = fresh();
-    l.long = TABLE_LENT;
-    l.index = MB_LENT;
-    l
-}
-
-// Takes a byte of the cases.
-fn feed(t: &mut Buffer, first: &mut Buffer, line: Line, b: u8) -> Line {
-    if b == b'\n' {
-        end(t, first, line);
-        return ready();
-    }
-    step(t, line, b)
-}
-
-// Shows what a command asks for.
+// Shows the blob that a command asks for.
 fn ask(t: &Buffer, line: Line) {
-    if line.command != b'?' {
-        return;
-    }
     let table = part(t, line.long);
     let mb = part(behind(t, MB), line.index);
     show(table, mb, line.first, line.second, line.number);
 }
 
-// Shows the cases of some lines; the first files are zero.
-pub fn run(lines: &[u8]) {
-    let mut t = [0u8; SIZE];
-    let mut first = [0u8; SIZE];
-    let mut line = ready();
-    let mut i: usize = 0;
-    while i < lines.len() {
-        let b = lines[i];
-        i += 1;
-        line = feed(&mut t, &mut first, line, b);
-        ask(&t, line);
-        line = after(&mut t, line, 0, 0);
+// What this program does with its cases.
+#[derive(Drop)]
+pub struct Blobs;
+
+impl Cases for Blobs {
+    fn ready(&self) -> Line {
+        let mut line = Line::fresh();
+        line.long = TABLE_LENT;
+        line.index = MB_LENT;
+        line
+    }
+
+    fn show(&self, _t: &Buffer, _line: Line) {}
+
+    fn keep(&mut self, _line: Line) {}
+
+    fn act(&mut self, t: &mut Buffer, line: Line) -> Line {
+        if line.command == Some(b'?') {
+            ask(t, line);
+        }
+        after(t, line)
     }
 }

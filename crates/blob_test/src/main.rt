@@ -6,10 +6,12 @@
 mod blobs;
 mod cases;
 
+use cases::Blobs;
+use test_lines::cases::run;
 use test_lines::print::STDIN_FILENO;
 
 fn main() {
     let mut text = io::large_buffer();
     let n = io::read_full(STDIN_FILENO, &mut text);
-    cases::run(&text[..n]);
+    run(&mut Blobs, &text[..n]);
 }

@@ -1,5 +1,6 @@
 -- The count rule as a test is the count rule as a proposition: a block is counted as n records exactly when it holds n.
 -- Assumes nothing.
+use Rattle.std.specs.Prelude.{Some, None}
 use Prim.Native.Nat.{ℕ, suc, ◌+◌, ◌-◌, ◌*◌, ◌/◌, ◌%◌, ◌≤◌}
 use mathlib.Core.Path.{◌≡◌, refl, ap, ◌∙◌}
 use mathlib.Core.Bool.{Bool, true, false, cond, ◌&&◌}
@@ -18,25 +19,24 @@ use Rattle.blocks.specs.Shape.{block_at}
 use Rattle.blocks.specs.Counts.{count_of, count_in, last_record}
 use Rattle.blocks.specs.Rules.{GoodCount, none, some, Holds}
 use Rattle.blocks.specs.declared.Shape.{Shape}
-use Rattle.blocks.specs.declared.count.Count.TheVariants.{Records, Bad}
 
 -- two counts of records that are equal count the same
-same_count : {m n : ℕ} → Records m ≡ Records n → m ≡ n
+same_count : {m n : ℕ} → Some m ≡ Some n → m ≡ n
 same_count e = cc
 
 module _ (block size : ℕ) where
   -- a count that is not bad is a good one
-  pub count_gives : (z : ℤ) (n : ℕ) → count_of block size z ≡ Records n → GoodCount block size z n
+  pub count_gives : (z : ℤ) (n : ℕ) → count_of block size z ≡ Some n → GoodCount block size z n
   unfolding count_of
   count_gives (negsuc d) n e = go (eqb (suc d) size) refl e
     where
-      go : (b : Bool) → eqb (suc d) size ≡ b → cond b (Records 0) Bad ≡ Records n → GoodCount block size (negsuc d) n
+      go : (b : Bool) → eqb (suc d) size ≡ b → cond b (Some 0) None ≡ Some n → GoodCount block size (negsuc d) n
       go true f k = let z : 0 ≡ n = cc in rw (← z) (none (eqb-true (suc d) size f))
       go false f k = let z : ◌≡◌ {A = ℕ} 0 1 = cc in absurd (omega arith)
   count_gives (pos m) n e = go (eqb (m % size) 0 && leb (m + size) (block - block_head)) refl e
     where
       go : (b : Bool) → (eqb (m % size) 0 && leb (m + size) (block - block_head)) ≡ b →
-          cond b (Records (m / size + 1)) Bad ≡ Records n → GoodCount block size (pos m) n
+          cond b (Some (m / size + 1)) None ≡ Some n → GoodCount block size (pos m) n
       go true f k =
           let p = both {a = eqb (m % size) 0} {b = leb (m + size) (block - block_head)} f in
           let z : suc (m / size) ≡ n = rw add-one at (same_count k) in
@@ -47,7 +47,7 @@ module _ (block size : ℕ) where
       go false f k = let z : ◌≡◌ {A = ℕ} 0 1 = cc in absurd (omega arith)
 
   -- a good count is that many records, where a record has bytes
-  pub count_takes : 1 ≤ size → (z : ℤ) (n : ℕ) → GoodCount block size z n → count_of block size z ≡ Records n
+  pub count_takes : 1 ≤ size → (z : ℤ) (n : ℕ) → GoodCount block size z n → count_of block size z ≡ Some n
   unfolding count_of
   count_takes l (negsuc d) n (none e) = rw (eq-eqb (suc d) size e)
   count_takes l (pos m) n (some {times = k} e i) =
@@ -57,12 +57,12 @@ module _ (block size : ℕ) where
 
 -- the same of block b of a file
 module _ (t : List ℕ) (g : Shape) (b n : ℕ) where
-  pub holds_gives : count_in t g b ≡ Records n → Holds t g b n
+  pub holds_gives : count_in t g b ≡ Some n → Holds t g b n
   unfolding count_in
   holds_gives =
       count_gives g.block_size g.record_size (signed (half 2) (word t (block_at g b + last_record))) n
 
-  pub holds_takes : 1 ≤ g.record_size → Holds t g b n → count_in t g b ≡ Records n
+  pub holds_takes : 1 ≤ g.record_size → Holds t g b n → count_in t g b ≡ Some n
   unfolding count_in
   holds_takes l =
       count_takes g.block_size g.record_size l (signed (half 2) (word t (block_at g b + last_record))) n

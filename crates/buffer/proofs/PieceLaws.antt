@@ -10,7 +10,8 @@ use Rattle.io.specs.Counts.{IsPrefixLen}
 use Rattle.buffer.specs.Pieces.{Room, Wrote, AtFront}
 
 -- a piece and then another, stored from an offset on
-pub sets_append : (l : List ℕ) (i : ℕ) (a b : List ℕ) → sets l i (a ++ b) ≡ sets (sets l i a) (i + length a) b
+pub sets_append : {A : Type 0} (l : List A) (i : ℕ) (a b : List A) →
+    sets l i (a ++ b) ≡ sets (sets l i a) (i + length a) b
 sets_append l i [] b = ap (λ (k : ℕ). sets l k b) (sym (add-zero i))
 sets_append l i (x ∷ a) b =
     let e : suc i + length a ≡ i + suc (length a) = omega arith in
@@ -57,14 +58,15 @@ front_as {s} {p} {q} {e} {k} same w = subst (λ (x : List ℕ). AtFront s x e k)
 pub wrote_nothing : (s : List ℕ) (i : ℕ) → Wrote s i [] s i
 wrote_nothing s i = record { puts = refl; ends = sym (add-zero i) }
 
--- one byte more of a copy
-pub copy_step : (s : List ℕ) (at : ℕ) (bytes : List ℕ) (i : ℕ) → i < length bytes
-    → set (sets s at (take i bytes)) (at + i) (get_or bytes i 0) ≡ sets s at (take (suc i) bytes)
-copy_step s at bytes i l =
-    let e : length (take i bytes) ≡ i = length-take-le i bytes (omega arith) in
-    ap (λ (k : ℕ). set (sets s at (take i bytes)) (at + k) (get_or bytes i 0)) (sym e)
-    ∙ sym (sets_append s at (take i bytes) (get_or bytes i 0 ∷ []))
-    ∙ ap (λ (x : List ℕ). sets s at x) (sym (take-suc bytes i 0 l))
+-- one item more of a copy
+pub copy_step : {A : Type 0} (s piece : List A) (at i : ℕ) (x : A) → i < length piece → get_or piece i x ≡ x →
+    set (sets s at (take i piece)) (at + i) x ≡ sets s at (take (i + 1) piece)
+copy_step s piece at i x l is =
+    let e : length (take i piece) ≡ i = length-take-le i piece (omega arith) in
+    let f : i + 1 ≡ suc i = omega arith in
+    ap (λ (k : ℕ). set (sets s at (take i piece)) (at + k) x) (sym e)
+    ∙ sym (sets_append s at (take i piece) (x ∷ []))
+    ∙ rw (f, take-suc piece i x l, is)
 
 -- a piece put at offset 0 is at the front, and its bytes are counted
 pub at_front : (s piece e : List ℕ) (n : ℕ) → length piece ≤ length s → Wrote s 0 piece e n

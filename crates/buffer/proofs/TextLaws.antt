@@ -2,16 +2,19 @@
 use Prim.Native.Nat.{ℕ, zero, suc, ◌+◌, ◌-◌, ◌*◌, ◌/◌, ◌%◌, ◌^◌, ◌≤◌, ◌<◌}
 use mathlib.Core.Path.{◌≡◌, refl, sym, ap, ◌∙◌, subst}
 use mathlib.Core.Logic.{⊎_elim}
+use mathlib.Core.Bool.{true, false, true≢false}
 use mathlib.Core.List.{[], ◌∷◌, ◌++◌}
 use native.Mathlib.Nat.{pow-suc}
 use native.Mathlib.Omega.{arith}
 use lib.Dec.{lit≤}
 use lib.IntN.{ℤ, pos, negsuc}
 use lib.ListN.{length, length-append}
-use borrow.Author.Tests.{lt-ltb, le-ltb, le-leb, lt-leb}
+use lib.Signed.{lt_z}
+use borrow.Author.Tests.{lt-ltb, le-ltb}
+use Rattle.std.specs.Prelude.{unsigned_abs}
 use Rattle.words.proofs.Cases.{lt_or_ge}
 use Rattle.io.specs.Digits.{hex_digit_ascii, last_digits, IsDigitCount}
-use Rattle.buffer.specs.Text.{places_in, decimal, minus, signed_text, shifted_text, hex_text}
+use Rattle.buffer.specs.Text.{places_in, decimal, minus, signed_text, hex_text}
 
 pub length_digits : (b k n : ℕ) → length (last_digits b k n) ≡ k
 length_digits b zero n = refl
@@ -116,13 +119,22 @@ pub hex_long : (n : ℕ) → length (hex_text n) ≡ 16
 unfolding hex_text
 hex_long n = length_digits 16 16 n
 
--- ---- a signed number, by what it is with `top` added
+-- ---- a signed number, by its sign and its size
 
-module _ (top n : ℕ) where
-  pub shifted_plain : top ≤ n → decimal (n - top) ≡ shifted_text top n
-  unfolding shifted_text
-  shifted_plain l = rw (le-leb top n l)
+plain_size : (z : ℤ) → lt_z z (pos 0) ≡ false → decimal (unsigned_abs z) ≡ signed_text z
+unfolding signed_text
+plain_size (pos n) l = refl
+plain_size (negsuc n) l = absurd (true≢false l)
 
-  pub shifted_minus : n < top → minus ∷ [] ++ decimal (top - n) ≡ shifted_text top n
-  unfolding shifted_text
-  shifted_minus l = rw (lt-leb top n l)
+minus_size : (z : ℤ) → lt_z z (pos 0) ≡ true → minus ∷ [] ++ decimal (unsigned_abs z) ≡ signed_text z
+unfolding signed_text
+minus_size (pos n) l = absurd (true≢false (sym l ∙ le-ltb n 0 (omega arith)))
+minus_size (negsuc n) l = refl
+
+-- `y` is z, as the code tests it
+module _ {y : ℤ} (z : ℤ) (n : ℕ) (same : y ≡ z) (size : n ≡ unsigned_abs y) where
+  pub signed_plain : lt_z y (pos 0) ≡ false → decimal n ≡ signed_text z
+  signed_plain l = ap decimal size ∙ plain_size y l ∙ ap signed_text same
+
+  pub signed_minus : lt_z y (pos 0) ≡ true → minus ∷ [] ++ decimal n ≡ signed_text z
+  signed_minus l = ap (λ (k : ℕ). minus ∷ decimal k) size ∙ minus_size y l ∙ ap signed_text same

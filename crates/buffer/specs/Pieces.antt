@@ -3,11 +3,11 @@ use Rattle.std.specs.Prelude.{ℕ, ◌+◌, ◌≤◌, ◌≡◌, List, ◌++◌
 use Rattle.std.proofs.lemmas.List.Edits.{sets}
 
 -- the buffer has room for a piece at an offset
-pub record Room (buffer : List ℕ) (at : ℕ) (piece : List ℕ) : Type 0 where
+pub record Room {A : Type 0} (buffer : List A) (at : ℕ) (piece : List A) : Type 0 where
   pub fits : at + length piece ≤ length buffer
 
 -- a piece put into a buffer at an offset, with the buffer and the offset after it
-pub record Wrote (before : List ℕ) (at : ℕ) (piece after : List ℕ) (end : ℕ) : Type 0 where
+pub record Wrote {A : Type 0} (before : List A) (at : ℕ) (piece after : List A) (end : ℕ) : Type 0 where
   pub puts : after ≡ sets before at piece
   pub ends : end ≡ at + length piece
 

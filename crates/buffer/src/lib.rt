@@ -1,15 +1,10 @@
 // Pieces put into a lent buffer, one behind the other: each function answers the offset behind its piece.
-// The functions are helpers of the crates above, which see to the room; every other byte of the buffer stays. `numbers`
-// has the same for a buffer of numbers, and makes one 0 as a whole.
+// The functions are helpers of the crates above, which see to the room; all else in the buffer stays.
 #![tactic(auto)]
 
-mod numbers;
-
-ghost use Rattle.std.specs.Prelude.{[], ◌∷◌};
+ghost use Rattle.std.specs.Prelude.{◌≡◌, [], ◌∷◌, length, replicate};
 ghost use Rattle.buffer.specs.Pieces.{Room, Wrote};
-ghost use Rattle.buffer.specs.Text.{decimal, hex_text, shifted_text};
-
-pub use numbers::{clear_numbers, put_numbers};
+ghost use Rattle.buffer.specs.Text.{decimal, hex_text, signed_text};
 
 // Puts one byte.
 pub fn put_byte(out: &mut [u8], at: usize, byte: u8) -> usize
@@ -20,17 +15,22 @@ pub fn put_byte(out: &mut [u8], at: usize, byte: u8) -> usize
     at + 1
 }
 
-// Puts some bytes.
-pub fn put_bytes(out: &mut [u8], at: usize, bytes: &[u8]) -> usize
-    requires { Room out.old at bytes.now }
-    ensures { Wrote out.old at bytes.now out.new result }
+// Puts some bytes, or some numbers.
+pub fn put<T: Copy>(out: &mut [T], at: usize, piece: &[T]) -> usize
+    requires { Room out.old at piece.now }
+    ensures { Wrote out.old at piece.now out.new result }
 {
-    let mut i: usize = 0;
-    while i < bytes.len() {
-        out[at + i] = bytes[i];
-        i += 1;
+    for i in 0..piece.len() {
+        out[at + i] = piece[i];
     }
-    at + i
+    at + piece.len()
+}
+
+// Makes every number of a buffer 0.
+pub fn clear_numbers(out: &mut [u64])
+    ensures { out.new ≡ replicate (length out.old) 0 }
+{
+    out.fill(0);
 }
 
 // Puts a number in decimal.
@@ -40,19 +40,16 @@ pub fn put_decimal(out: &mut [u8], at: usize, n: u64) -> usize
 {
     let mut digits = [0u8; 20];
     let count = io::decimal(n, &mut digits);
-    put_bytes(out, at, &digits[..count])
+    put(out, at, &digits[..count])
 }
 
-// Puts a signed number, given with `top` added: a minus sign where it is below that.
-pub fn put_shifted(out: &mut [u8], at: usize, n: u64, top: u64) -> usize
-    requires { Room out.old at (shifted_text top n) }
-    ensures { Wrote out.old at (shifted_text top n) out.new result }
+// Puts a signed number in decimal: a minus sign where it is below 0, and its size.
+pub fn put_signed(out: &mut [u8], at: usize, z: i64) -> usize
+    requires { Room out.old at (signed_text z) }
+    ensures { Wrote out.old at (signed_text z) out.new result }
 {
-    if top <= n {
-        return put_decimal(out, at, n - top);
-    }
-    let behind = put_byte(out, at, b'-');
-    put_decimal(out, behind, top - n)
+    let digits_at = if z < 0 { put_byte(out, at, b'-') } else { at };
+    put_decimal(out, digits_at, z.unsigned_abs())
 }
 
 // Puts a number as 16 hex digits.
@@ -62,5 +59,5 @@ pub fn put_hex(out: &mut [u8], at: usize, n: u64) -> usize
 {
     let mut digits = [0u8; 16];
     let count = io::hex(n, 16, &mut digits);
-    put_bytes(out, at, &digits[..count])
+    put(out, at, &digits[..count])
 }

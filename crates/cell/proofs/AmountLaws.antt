@@ -11,10 +11,11 @@ use lib.Signed.{lt_z}
 use lib.Ieee.{lt, eq}
 use borrow.Author.Tests.{le-ltb, ltb-true}
 use Rattle.words.specs.Order.{NotLater, order}
-use Rattle.words.specs.declared.Order.TheVariants.{Less}
+use Rattle.std.specs.declared.cmp.Ordering.TheVariants.{Less}
 use Rattle.words.proofs.Cases.{apart}
 use Rattle.words.proofs.OrderLaws.{not_later_cases, order_cases}
-use Rattle.cell.specs.Amounts.{Amount, whole, LessThan, wholes, doubles, blank_whole, blank_double, EqualTo, same_whole, same_double}
+use Rattle.cell.specs.Amounts.{Amount, whole, LessThan, wholes, doubles, blank_whole, blank_double}
+use Rattle.cell.specs.Amounts.{EqualTo, same_whole, same_double}
 use Rattle.cell.specs.Amounts.{AtMost, negative_zero, positive_zero, TwoZeros, OrderedAs, WholesOrderedAs}
 use Rattle.cell.proofs.ExactLaws.{lt_excludes}
 

@@ -5,6 +5,7 @@ use mathlib.Core.Path.{◌≡◌}
 use mathlib.Core.List.{List}
 use mathlib.Core.Logic.{◌⊎◌, inl, inr, ⊎_elim}
 use native.Mathlib.Omega.{arith}
+use Rattle.std.specs.Prelude.{Some}
 use Rattle.words.proofs.Cases.{compared}
 use Rattle.header.specs.Header.{block_head}
 use Rattle.header.specs.Rules.{Accepted}
@@ -13,7 +14,6 @@ use Rattle.header.specs.declared.kind.FieldKind.{FieldKind}
 use Rattle.header.proofs.AcceptedLaws.{field_bounds, behind_key, fields_apart}
 use Rattle.blocks.specs.Shape.{shape_of, block_at, record_at}
 use Rattle.blocks.specs.Counts.{count_in}
-use Rattle.blocks.specs.declared.count.Count.TheVariants.{Records}
 use Rattle.blocks.proofs.ShapeLaws.{sound, blocks_apart}
 use Rattle.blocks.proofs.CountLaws.{record_inside, records_apart}
 use Rattle.cell.specs.Locating.{BothSteps, InBlock}
@@ -73,7 +73,7 @@ module _ (t : List ℕ) (h : Header) (a : Accepted t h) (b p f : ℕ) (kind : Fi
       (λ l. inr (omega (arith, blocks_apart (shape_of h) b block here.low l, here.block_end)))
 
   -- from every counted record but its own
-  pub record_apart : (block place n : ℕ) → 1 ≤ block → count_in t (shape_of h) block ≡ Records n → place < n
+  pub record_apart : (block place n : ℕ) → 1 ≤ block → count_in t (shape_of h) block ≡ Some n → place < n
       → (b ≡ block → p ≡ place → ⊥)
       → (record_at (shape_of h) block place + h.record_size ≤ at) ⊎ (at + width ≤ record_at (shape_of h) block place)
   unfolding shape_of
@@ -84,7 +84,7 @@ module _ (t : List ℕ) (h : Header) (a : Accepted t h) (b p f : ℕ) (kind : Fi
       low counted below other)
 
   -- and, where its field is no key field, from every counted record's key
-  pub key_apart : h.key_fields < f → (block place n : ℕ) → 1 ≤ block → count_in t (shape_of h) block ≡ Records n
+  pub key_apart : h.key_fields < f → (block place n : ℕ) → 1 ≤ block → count_in t (shape_of h) block ≡ Some n
       → place < n
       → (record_at (shape_of h) block place + h.key_length ≤ at) ⊎ (at + width ≤ record_at (shape_of h) block place)
   key_apart behind block place n low counted below =

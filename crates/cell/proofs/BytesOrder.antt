@@ -15,7 +15,7 @@ use Rattle.words.specs.Numbers.{Bytes, big}
 use Rattle.words.specs.Order.{order, range}
 use Rattle.words.specs.Signed.{half, complemented, signed}
 use Rattle.words.specs.Zeros.{all_zero}
-use Rattle.words.specs.declared.Order.TheVariants.{Less}
+use Rattle.std.specs.declared.cmp.Ordering.TheVariants.{Less}
 use Rattle.words.proofs.NumberLaws.{big_lt}
 use Rattle.words.proofs.NumberOrder.{earlier_number, same_number}
 use Rattle.words.proofs.Ranges.{range_length}

@@ -14,6 +14,7 @@ use lib.Ieee.Scale.{finite}
 use lib.ListN.{length, take, replicate, length-append}
 use lib.Seq.{take-append_seam}
 use borrow.Author.Tests.{lt-ltb, le-leb, eq-eqb, ltb-true, leb-true, eqb-true, ne_eqb}
+use Rattle.std.specs.Prelude.{Ok, Err}
 use Rattle.words.specs.Numbers.{byte, digits}
 use Rattle.words.specs.Signed.{half, complemented, signed}
 use Rattle.words.specs.Zeros.{all_zero, before_zero}
@@ -25,7 +26,7 @@ use Rattle.words.proofs.ZeroLaws.{Nonzero, before_nonzero, before_most, before_w
 use Rattle.words.proofs.ZeroLaws.{before_zeros, none_zero}
 use Rattle.words.proofs.Cases.{lt_or_ge}
 use Rattle.words.proofs.SignedLaws.{half_twice, less_below, less_from, signed_complemented}
-use Rattle.header.specs.Refusals.{no_meaning}
+use Rattle.header.specs.declared.refusal.Refusal.TheVariants.{NoMeaning}
 use Rattle.cell.specs.Values.{Content, text, content_of, answer_of}
 use Rattle.cell.specs.Doubles.{double_of, stored_double}
 use Rattle.cell.specs.Reading.{false_byte, true_byte, least_date, most_date, is_date, date_cell, number_cell}
@@ -33,8 +34,7 @@ use Rattle.cell.specs.Reading.{logical_cell, text_with}
 use Rattle.cell.specs.Writing.{none, bytes, no_zero, signed_form, date_form, number_form, logical_byte, text_form}
 use Rattle.cell.specs.declared.value.Value.{Value}
 use Rattle.cell.specs.declared.value.Value.TheVariants as Val
-use Rattle.cell.specs.declared.value.Cell.TheVariants.{Is, Refused}
-use Rattle.cell.proofs.ReadingLaws.{no_cell}
+use Rattle.cell.proofs.Exits.{no_cell}
 use Rattle.cell.proofs.StoredLaws.{finite_form, infinite_form, stored_of_double, double_of_stored}
 use Rattle.cell.proofs.StoredLaws.{stored_wide, stored_no_blank}
 
@@ -112,11 +112,12 @@ date_signed d h =
     rw (h, lt-ltb d 2147483648 (omega arith))
 
 -- a cell with a date has the signed number that is the day
-pub read_date : (z : ℤ) (v : Value) → date_cell z ≡ Is v → (d : ℕ) × (v ≡ Val.Date d) × (date_form 4 d ≡ signed_form 4 z)
+pub read_date : (z : ℤ) (v : Value) → date_cell z ≡ Ok v
+    → (d : ℕ) × (v ≡ Val.Date d) × (date_form 4 d ≡ signed_form 4 z)
 unfolding date_cell
 read_date (pos d) v h = go (is_date d) refl h
   where
-    go : (t : Bool) → is_date d ≡ t → cond t (Is (Val.Date d)) (Refused no_meaning) ≡ Is v
+    go : (t : Bool) → is_date d ≡ t → cond t (Ok (Val.Date d)) (Err NoMeaning) ≡ Ok v
         → (e : ℕ) × (v ≡ Val.Date e) × (date_form 4 e ≡ signed_form 4 (pos d))
     go true e k = (d, cc, date_signed d e)
     go false e k = no_cell k
@@ -124,12 +125,12 @@ read_date (negsuc d) v h = no_cell h
 
 -- a date that has a form is what the form's number means
 pub date_means : (d : ℕ) (s : List ℕ) → date_form 4 d ≡ bytes s
-    → Numbered 4 s (λ n. date_cell (signed (half 4) (complemented (half 4) n)) ≡ Is (Val.Date d))
+    → Numbered 4 s (λ n. date_cell (signed (half 4) (complemented (half 4) n)) ≡ Ok (Val.Date d))
 unfolding date_cell date_form
 date_means d s h = go (is_date d) refl h
   where
     go : (t : Bool) → is_date d ≡ t → cond t (bytes (digits 4 (d + half 4))) none ≡ bytes s
-        → Numbered 4 s (λ n. date_cell (signed (half 4) (complemented (half 4) n)) ≡ Is (Val.Date d))
+        → Numbered 4 s (λ n. date_cell (signed (half 4) (complemented (half 4) n)) ≡ Ok (Val.Date d))
     go true e k =
         let q = signed_means 4 (omega arith) (pos d) s (sym (date_signed d e) ∙ h) in
         (q.0, q.1, q.2, q.3, ap date_cell q.4 ∙ rw e)
@@ -138,11 +139,11 @@ date_means d s h = go (is_date d) refl h
 -- ---- doubles
 
 -- a cell with a double has a finite one
-pub read_number : (x : Float) (v : Value) → number_cell x ≡ Is v → (v ≡ Val.Number x) × (finite x ≡ true)
+pub read_number : (x : Float) (v : Value) → number_cell x ≡ Ok v → (v ≡ Val.Number x) × (finite x ≡ true)
 unfolding number_cell
 read_number x v h = go (finite x) refl h
   where
-    go : (t : Bool) → finite x ≡ t → cond t (Is (Val.Number x)) (Refused no_meaning) ≡ Is v
+    go : (t : Bool) → finite x ≡ t → cond t (Ok (Val.Number x)) (Err NoMeaning) ≡ Ok v
         → (v ≡ Val.Number x) × (finite x ≡ true)
     go true e k = (cc, e)
     go false e k = no_cell k
@@ -155,11 +156,11 @@ number_form_lem n h f =
 
 -- a double of the format that has a form is what the form's number means
 pub number_means : (x : Float) (s : List ℕ) → fits binary64 x ≡ true → number_form 8 x ≡ bytes s
-    → Numbered 8 s (λ n. number_cell (double_of 8 n) ≡ Is (Val.Number x))
+    → Numbered 8 s (λ n. number_cell (double_of 8 n) ≡ Ok (Val.Number x))
 unfolding number_cell
 number_means x s f h = go (finite x) refl
   where
-    go : (t : Bool) → finite x ≡ t → Numbered 8 s (λ n. number_cell (double_of 8 n) ≡ Is (Val.Number x))
+    go : (t : Bool) → finite x ≡ t → Numbered 8 s (λ n. number_cell (double_of 8 n) ≡ Ok (Val.Number x))
     go false e = no_form (sym (infinite_form 8 x e) ∙ h)
     go true e =
         let q : bytes (digits 8 (stored_double 8 x)) ≡ bytes s = sym (finite_form 8 x e) ∙ h in
@@ -168,13 +169,13 @@ number_means x s f h = go (finite x) refl
 -- ---- logicals
 
 -- a cell with a logical has the logical's number
-pub read_logical : (n : ℕ) (v : Value) → logical_cell n ≡ Is v
+pub read_logical : (n : ℕ) (v : Value) → logical_cell n ≡ Ok v
     → (b : Bool) × (v ≡ Val.Logical b) × (logical_byte b ≡ n)
 unfolding logical_cell
 read_logical n v h = go (eqb n false_byte) (eqb n true_byte) refl refl h
   where
     go : (p q : Bool) → eqb n false_byte ≡ p → eqb n true_byte ≡ q
-        → cond p (Is (Val.Logical false)) (cond q (Is (Val.Logical true)) (Refused no_meaning)) ≡ Is v
+        → cond p (Ok (Val.Logical false)) (cond q (Ok (Val.Logical true)) (Err NoMeaning)) ≡ Ok v
         → (b : Bool) × (v ≡ Val.Logical b) × (logical_byte b ≡ n)
     go true q e f k = (false, cc, sym (eqb-true n false_byte e))
     go false true e f k = (true, cc, sym (eqb-true n true_byte f))
@@ -182,7 +183,7 @@ read_logical n v h = go (eqb n false_byte) (eqb n true_byte) refl refl h
 
 -- a logical is what its number means
 pub logical_means : (b : Bool)
-    → Numbered 1 (digits 1 (logical_byte b)) (λ n. logical_cell n ≡ Is (Val.Logical b))
+    → Numbered 1 (digits 1 (logical_byte b)) (λ n. logical_cell n ≡ Ok (Val.Logical b))
 unfolding logical_cell
 logical_means true = (logical_byte true, omega arith, omega arith, refl, refl)
 logical_means false = (logical_byte false, omega arith, omega arith, refl, refl)
@@ -234,12 +235,12 @@ module _ (w : ℕ) (s rest : List ℕ) (some : 1 ≤ length s) (room : length s 
       (rw (zero-add, le-leb (length s) (length padded) long) (ap {B = ℕ × Content} (λ (t : List ℕ). (0, text t)) front))
 
 -- a cell with a text has zeros behind it
-pub read_text : (s : List ℕ) (at w l : ℕ) (v : Value) → text_with s at w l ≡ Is v
+pub read_text : (s : List ℕ) (at w l : ℕ) (v : Value) → text_with s at w l ≡ Ok v
     → (v ≡ Val.Text at l) × (all_zero s (at + l) (w - l) ≡ true)
 unfolding text_with
 read_text s at w l v h = go (all_zero s (at + l) (w - l)) refl h
   where
-    go : (t : Bool) → all_zero s (at + l) (w - l) ≡ t → cond t (Is (Val.Text at l)) (Refused no_meaning) ≡ Is v
+    go : (t : Bool) → all_zero s (at + l) (w - l) ≡ t → cond t (Ok (Val.Text at l)) (Err NoMeaning) ≡ Ok v
         → (v ≡ Val.Text at l) × (all_zero s (at + l) (w - l) ≡ true)
     go true e k = (cc, e)
     go false e k = no_cell k

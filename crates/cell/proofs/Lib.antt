@@ -8,6 +8,7 @@ pub mod CopyLaws
 pub mod DoubleLaws
 pub mod DoubleOrder
 pub mod ExactLaws
+pub mod Exits
 pub mod Finite
 pub mod Inverse
 pub mod LocatingLaws

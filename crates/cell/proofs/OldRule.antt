@@ -8,7 +8,7 @@ use lib.Ieee.{Float, binary64, fin, lt, of_bits}
 use Rattle.words.specs.Numbers.{digits}
 use Rattle.words.specs.Order.{order}
 use Rattle.words.specs.Signed.{half, complemented}
-use Rattle.words.specs.declared.Order.TheVariants.{Less}
+use Rattle.std.specs.declared.cmp.Ordering.TheVariants.{Less}
 use Rattle.cell.specs.Doubles.{meant_bits, double_of}
 
 -- the double that a stored number of eight bytes means by document 01 alone

@@ -4,6 +4,9 @@ use Prim.Native.Nat.{ℕ, ◌+◌, ◌-◌, ◌*◌, ◌≤◌}
 use mathlib.Core.Path.{◌≡◌, refl, sym, ap, ◌∙◌}
 use mathlib.Core.List.{List}
 use native.Mathlib.Omega.{arith}
+use Rattle.std.specs.Prelude.{Option, Some, None, Result, Ok, Err}
+use Rattle.header.specs.Refusals.{kept}
+use Rattle.header.specs.declared.refusal.Refusal.{Refusal}
 use Rattle.words.specs.Numbers.{byte}
 use Rattle.words.specs.Order.{range}
 use Rattle.words.specs.Zeros.{all_zero, before_zero}
@@ -11,26 +14,21 @@ use Rattle.words.proofs.Cases.{apart}
 use Rattle.words.proofs.SameLaws.{same_byte, same_part, same_big, same_zeros, same_before, same_inside}
 use Rattle.words.proofs.ZeroLaws.{before_most}
 use Rattle.header.specs.Header.{header_refusal}
-use Rattle.header.specs.Numbers.{numbers_of}
+use Rattle.header.specs.Numbers.{field_is, numbers_of}
 use Rattle.header.specs.Rules.{Accepted}
 use Rattle.header.specs.declared.Header.{Header}
 use Rattle.header.specs.declared.kind.FieldKind.{FieldKind}
 use Rattle.header.specs.declared.kind.FieldKind.TheVariants as Kin
 use Rattle.header.specs.declared.field.Field.{Field}
-use Rattle.header.specs.declared.field.Field.TheVariants as Fie
 use Rattle.header.proofs.KindLaws.{known_width}
 use Rattle.header.proofs.AcceptedLaws.{accepted}
 use Rattle.blocks.specs.Shape.{shape_of}
 use Rattle.blocks.specs.Counts.{count_in}
 use Rattle.blocks.specs.declared.Shape.{Shape}
 use Rattle.blocks.proofs.ShapeLaws.{has_block_lem}
-use Rattle.cell.specs.Values.{answer_of}
+use Rattle.cell.specs.Values.{Cell, answer_of}
 use Rattle.cell.specs.Locating.{field_at, place_with, place_at, BothSteps, SamePlaces}
 use Rattle.cell.specs.Reading.{text_with, value_at, cell_at, place_cell, field_cell, block_cell, cell_of, read_of}
-use Rattle.cell.specs.declared.value.Cell.{Cell}
-use Rattle.cell.specs.declared.value.Cell.TheVariants.{Refused}
-use Rattle.cell.specs.declared.locate.Place.{Place}
-use Rattle.cell.specs.declared.locate.Place.TheVariants as Pla
 use Rattle.cell.proofs.LocatingLaws.{field_found, located}
 use Rattle.cell.proofs.ReadingLaws.{cell_accepted}
 use Rattle.cell.proofs.TableRoundTrip.{cell_same}
@@ -64,7 +62,8 @@ module _ (s t : List ℕ) (at w : ℕ) (h : range s at w ≡ range t at w) where
 
 module _ (t u : List ℕ) (g : Shape) where
   -- the same count, the same place
-  pub place_same : (b p offset : ℕ) → count_in u g b ≡ count_in t g b → place_at u g b p offset ≡ place_at t g b p offset
+  pub place_same : (b p offset : ℕ) → count_in u g b ≡ count_in t g b
+      → place_at u g b p offset ≡ place_at t g b p offset
   unfolding place_at
   place_same b p offset e = ap (place_with g b p offset) e
 
@@ -90,7 +89,7 @@ module _ {t u : List ℕ} {h k : Header} (same : SamePlaces t h u k) where
       rw same.shape (place_same t u (shape_of h) b p offset (same.counts b low high))
 
   -- step 2, behind step 1
-  pub step_next : (b p f : ℕ) (kind : FieldKind) (width offset : ℕ) → field_at t h b f ≡ Fie.Is kind width offset
+  pub step_next : (b p f : ℕ) (kind : FieldKind) (width offset : ℕ) → field_at t h b f ≡ field_is kind width offset
       → place_at u (shape_of k) b p offset ≡ place_at t (shape_of h) b p offset
   step_next b p f kind width offset e =
       let q = has_block_lem (shape_of h) b (field_found t h b f kind width offset e).0 in
@@ -110,23 +109,24 @@ module _ {t u : List ℕ} {h k : Header} (same : SamePlaces t h u k) where
 
   module _ (b p f : ℕ) where
     -- what a refusal has with itself, and what the bytes of a located cell have, the two answers have
-    module _ (Alike : Cell → Cell → Type 0) (refused : (n : ℕ) → Alike (Refused n) (Refused n))
+    module _ (Alike : Cell → Cell → Type 0) (refused : (r : Refusal) → Alike (Err r) (Err r))
         (there : (kind : FieldKind) (width at : ℕ) → BothSteps t h b p f kind width at
         → Alike (cell_at kind u at width) (cell_at kind t at width)) where
-      by_place : (kind : FieldKind) (width offset : ℕ) → field_at t h b f ≡ Fie.Is kind width offset → (r : Place)
-          → place_at t (shape_of h) b p offset ≡ r → Alike (place_cell u kind width r) (place_cell t kind width r)
+      by_place : (kind : FieldKind) (width offset : ℕ) → field_at t h b f ≡ field_is kind width offset
+          → (a : Result ℕ Refusal) → place_at t (shape_of h) b p offset ≡ a
+          → Alike (place_cell u kind width a) (place_cell t kind width a)
       unfolding place_cell
-      by_place kind width offset e (Pla.Refused n) r = refused n
-      by_place kind width offset e (Pla.At at) r =
+      by_place kind width offset e (Err x) r = refused x
+      by_place kind width offset e (Ok at) r =
           there kind width at (record { offset = offset; field = e; place = r })
 
-      by_field : (d : Field) → field_at t h b f ≡ d
+      by_field : (d : Option Field) → field_at t h b f ≡ d
           → Alike (field_cell u (shape_of k) b p d) (field_cell t (shape_of h) b p d)
       unfolding field_cell
-      by_field Fie.Missing e = refused _
-      by_field (Fie.Is kind width offset) e =
-          rw (step_next b p f kind width offset e)
-          (by_place kind width offset e (place_at t (shape_of h) b p offset) refl)
+      by_field None e = refused _
+      by_field (Some d) e =
+          rw (step_next b p f d.kind d.width d.offset e)
+          (by_place d.kind d.width d.offset e (place_at t (shape_of h) b p d.offset) refl)
 
       pub block_alike : Alike (block_cell u k b p f) (block_cell t h b p f)
       unfolding block_cell
@@ -138,14 +138,14 @@ module _ {t u : List ℕ} {h k : Header} (same : SamePlaces t h u k) where
       -- the same cell: of a text, the same start and length
       pub block_same : block_cell u k b p f ≡ block_cell t h b p f
       block_same =
-          block_alike (λ (c d : Cell). c ≡ d) (λ n. refl) (λ kind width at c.
+          block_alike (λ (c d : Cell). c ≡ d) (λ r. refl) (λ kind width at c.
           cell_there u t at width (bytes kind width at c) kind)
 
       -- the same number and value: of a text, the same bytes
       pub answer_same : Accepted t h → answer_of u (block_cell u k b p f) ≡ answer_of t (block_cell t h b p f)
       unfolding answer_of
       answer_same a =
-          block_alike (λ (c d : Cell). answer_of u c ≡ answer_of t d) (λ n. refl) (λ kind width at c.
+          block_alike (λ (c d : Cell). answer_of u c ≡ answer_of t d) (λ r. refl) (λ kind width at c.
           let l = located t h a b f kind width c.offset c.field p at c.place in
           let e = bytes kind width at c in
           let some = known_width (byte t (h.area + 2 * (f - 1))) width (λ z. apart (cc l.stored)) in
@@ -154,16 +154,16 @@ module _ {t u : List ℕ} {h k : Header} (same : SamePlaces t h u k) where
 
 -- ---- by block, place and field of two tables that keep rules 1 to 7
 
-module _ (t u : List ℕ) (kept : header_refusal t ≡ 0) (also : header_refusal u ≡ 0)
+module _ (t u : List ℕ) (right : header_refusal t ≡ kept) (also : header_refusal u ≡ kept)
     (same : SamePlaces t (numbers_of t) u (numbers_of u)) (b p f : ℕ)
     (bytes : (kind : FieldKind) (width at : ℕ) → BothSteps t (numbers_of t) b p f kind width at
     → range u at width ≡ range t at width) where
   pub cell_of_same : cell_of u b p f ≡ cell_of t b p f
-  cell_of_same = sym (cell_accepted u b p f also) ∙ block_same same b p f bytes ∙ cell_accepted t b p f kept
+  cell_of_same = sym (cell_accepted u b p f also) ∙ block_same same b p f bytes ∙ cell_accepted t b p f right
 
   pub read_same : read_of u b p f ≡ read_of t b p f
   unfolding read_of
   read_same =
       ap (answer_of u) (sym (cell_accepted u b p f also))
-      ∙ answer_same same b p f bytes (accepted t kept)
-      ∙ ap (answer_of t) (cell_accepted t b p f kept)
+      ∙ answer_same same b p f bytes (accepted t right)
+      ∙ ap (answer_of t) (cell_accepted t b p f right)

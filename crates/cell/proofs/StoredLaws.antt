@@ -17,7 +17,7 @@ use Rattle.words.proofs.Cases.{lt_or_ge}
 use Rattle.cell.specs.Doubles.{all_complemented, meant_bits, stored_bits, double_of, stored_double}
 use Rattle.cell.specs.Writing.{number_form, none, bytes}
 use Rattle.cell.proofs.DoubleLaws.{infinity_bits, finite_is, finite_below, finite_from, finite_bits, of_bits_lem}
-use Rattle.cell.proofs.DoubleLaws.{bits_small}
+use Rattle.cell.proofs.DoubleLaws.{bits_small, finite_number, nan_infinite, not_nan, finite_by_bits}
 
 -- ---- bits, once over what the top bit counts for
 
@@ -163,3 +163,9 @@ finite_form w x h = rw h
 pub infinite_form : (w : ℕ) (x : Float) → finite x ≡ false → number_form w x ≡ none
 unfolding number_form
 infinite_form w x h = rw h
+
+-- the number that a finite double is stored as
+pub ruleset stored = (finite_number, stored_from, stored_below)
+
+-- which doubles have a form
+pub ruleset forms = (nan_infinite, not_nan, finite_by_bits, finite_form, infinite_form)

@@ -14,35 +14,31 @@ use lib.Ieee.Scale.{finite}
 use lib.ListN.{length, take, drop}
 use lib.Seq.{get_or-take}
 use borrow.Author.Tests.{le-leb}
+use Rattle.std.specs.Prelude.{Some, Ok, Err}
+use Rattle.header.specs.Refusals.{kept}
 use Rattle.words.specs.Numbers.{byte, Bytes, big}
 use Rattle.words.specs.Order.{range}
 use Rattle.words.specs.Zeros.{all_zero, before_zero}
 use Rattle.words.proofs.NumberLaws.{big_same}
 use Rattle.words.proofs.Ranges.{range_byte, range_same}
 use Rattle.words.proofs.ZeroLaws.{before_most, before_same, zero_same}
-use Rattle.header.specs.Refusals.{no_meaning}
+use Rattle.header.specs.declared.refusal.Refusal.TheVariants.{NoMeaning}
 use Rattle.header.specs.Kinds.{kind_of, is_blob}
 use Rattle.header.specs.Fields.{width_at, width_sum}
 use Rattle.header.specs.Header.{header_refusal}
-use Rattle.header.specs.Numbers.{numbers_of, field_of}
+use Rattle.header.specs.Numbers.{field_is, numbers_of, field_of}
 use Rattle.header.specs.declared.kind.FieldKind.{FieldKind}
 use Rattle.header.specs.declared.kind.FieldKind.TheVariants as Kin
-use Rattle.header.specs.declared.kind.StoredKind.TheVariants.{Kind}
-use Rattle.header.specs.declared.field.Field.TheVariants as Fie
 use Rattle.header.proofs.AcceptedLaws.{accepted}
 use Rattle.blocks.specs.Shape.{shape_of, has_block, record_at}
 use Rattle.blocks.specs.Counts.{count_in}
-use Rattle.blocks.specs.declared.count.Count.TheVariants.{Records}
-use Rattle.cell.specs.Values.{Content, text, Held, content_of, answer_of}
+use Rattle.cell.specs.Values.{Cell, Content, text, Held, content_of, answer_of}
 use Rattle.cell.specs.Locating.{field_at, place_at}
 use Rattle.cell.specs.Reading.{false_byte, true_byte, is_date, signed_at, double_at, date_cell, number_cell}
 use Rattle.cell.specs.Reading.{logical_cell, text_with, value_at, cell_at, cell_of, read_of}
 use Rattle.cell.specs.Writing.{write_of}
 use Rattle.cell.specs.declared.value.Value.{Value}
 use Rattle.cell.specs.declared.value.Value.TheVariants as Val
-use Rattle.cell.specs.declared.value.Cell.{Cell}
-use Rattle.cell.specs.declared.value.Cell.TheVariants.{Is, Refused}
-use Rattle.cell.specs.declared.locate.Place.TheVariants.{At}
 use Rattle.cell.proofs.ReadingLaws.{block_cell_lem, cell_accepted}
 use Rattle.cell.proofs.LocatingLaws.{field_of_block, place_there, located}
 use Rattle.cell.proofs.PlaceLaws.{stands}
@@ -60,19 +56,19 @@ module _ (s t : List ℕ) where
 
   date_same : (z : ℤ) → Same (date_cell z)
   unfolding date_cell answer_of content_of
-  date_same (pos d) = same_if (is_date d) (Is (Val.Date d)) (Refused no_meaning) refl refl
+  date_same (pos d) = same_if (is_date d) (Ok (Val.Date d)) (Err NoMeaning) refl refl
   date_same (negsuc d) = refl
 
   number_same : (x : Float) → Same (number_cell x)
   unfolding number_cell answer_of content_of
-  number_same x = same_if (finite x) (Is (Val.Number x)) (Refused no_meaning) refl refl
+  number_same x = same_if (finite x) (Ok (Val.Number x)) (Err NoMeaning) refl refl
 
   logical_same : (n : ℕ) → Same (logical_cell n)
   unfolding logical_cell answer_of content_of
   logical_same n =
-      same_if (eqb n false_byte) (Is (Val.Logical false))
-      (cond (eqb n true_byte) (Is (Val.Logical true)) (Refused no_meaning)) refl
-      (same_if (eqb n true_byte) (Is (Val.Logical true)) (Refused no_meaning) refl refl)
+      same_if (eqb n false_byte) (Ok (Val.Logical false))
+      (cond (eqb n true_byte) (Ok (Val.Logical true)) (Err NoMeaning)) refl
+      (same_if (eqb n true_byte) (Ok (Val.Logical true)) (Err NoMeaning) refl refl)
 
 -- ---- the same bytes, at two offsets
 
@@ -101,8 +97,8 @@ module _ (s t : List ℕ) (at to w : ℕ) (k : at + w ≤ length s) (l : to + w 
           rw (a, b) (h (n + i) (omega arith)))
 
       go : (b : Bool)
-          → answer_of s (cond b (Is (Val.Text at n)) (Refused no_meaning))
-          ≡ answer_of t (cond b (Is (Val.Text to n)) (Refused no_meaning))
+          → answer_of s (cond b (Ok (Val.Text at n)) (Err NoMeaning))
+          ≡ answer_of t (cond b (Ok (Val.Text to n)) (Err NoMeaning))
       go true =
           rw (le-leb (at + n) (length s) (omega arith), le-leb (to + n) (length t) (omega arith))
           (ap {B = ℕ × Content} (λ (r : List ℕ). (0, text r))
@@ -125,31 +121,32 @@ module _ (s t : List ℕ) (at to w : ℕ) (k : at + w ≤ length s) (l : to + w 
   cell_same kind = rw same_zeros (go (not (is_blob kind) && all_zero t to w))
     where
       go : (b : Bool)
-          → answer_of s (cond b (Is Val.Blank) (value_at kind s at w))
-          ≡ answer_of t (cond b (Is Val.Blank) (value_at kind t to w))
+          → answer_of s (cond b (Ok Val.Blank) (value_at kind s at w))
+          ≡ answer_of t (cond b (Ok Val.Blank) (value_at kind t to w))
       go true = refl
       go false = value_same kind
 
 -- ---- a written value in a table
 
--- a value that was written with an answer of 0, and whose bytes stand as the cell of a field of that kind and width, is
+-- a value that was written, and whose bytes stand as the cell of a field of that kind and width, is
 -- what reading by block, place and field answers
-pub write_then_table : (code w : ℕ) (c : Content) (buffer out : List ℕ) → Held c → write_of code w c buffer ≡ (0, out)
-    → (t : List ℕ) (b p f : ℕ) (kind : FieldKind) (offset n : ℕ) → header_refusal t ≡ 0
-    → has_block (shape_of (numbers_of t)) b ≡ true → field_of t (numbers_of t) f ≡ Fie.Is kind w offset
-    → count_in t (shape_of (numbers_of t)) b ≡ Records n → p < n → kind_of code w ≡ Kind kind
+pub write_then_table : (code w : ℕ) (c : Content) (buffer out : List ℕ) → Held c
+    → write_of code w c buffer ≡ (kept, out)
+    → (t : List ℕ) (b p f : ℕ) (kind : FieldKind) (offset n : ℕ) → header_refusal t ≡ kept
+    → has_block (shape_of (numbers_of t)) b ≡ true → field_of t (numbers_of t) f ≡ field_is kind w offset
+    → count_in t (shape_of (numbers_of t)) b ≡ Some n → p < n → kind_of code w ≡ Some kind
     → range t (record_at (shape_of (numbers_of t)) b p + offset) w ≡ take w out → read_of t b p f ≡ (0, c)
 unfolding read_of
 write_then_table code w c buffer out held e t b p f kind offset n zero here field count place k same =
     let g = shape_of (numbers_of t) in
     let at = record_at g b p + offset in
-    let found : field_at t (numbers_of t) b f ≡ Fie.Is kind w offset =
+    let found : field_at t (numbers_of t) b f ≡ field_is kind w offset =
     sym (field_of_block t (numbers_of t) b f here) ∙ field in
-    let placed : place_at t g b p offset ≡ At at = sym (place_there t g b p offset n count place) in
+    let placed : place_at t g b p offset ≡ Ok at = sym (place_there t g b p offset n count place) in
     let inside = (located t (numbers_of t) (accepted t zero) b f kind w offset found p at placed).inside in
     let r = write_then_read code w c buffer out held e in
     let i : kind ≡ r.0 = let j = r.1 in cc in
-    let long = (write_rest code w c buffer 0 out e).1 in
+    let long = (write_rest code w c buffer kept out e).1 in
     let room : 0 + w ≤ length out = omega (arith, (wrote code w c buffer out e).5, long) in
     let front : (j : ℕ) → j < w → byte (take w out) j ≡ byte out (0 + j) =
     λ j m. get_or-take w out j 0 m ∙ ap (byte out) (sym (zero-add j)) in
@@ -165,12 +162,13 @@ write_then_table code w c buffer out held e t b p f kind offset n zero here fiel
 
 -- the cell at a block, place and field of a table that reads as a value, written by its field's stored pair, gives its
 -- bytes: those behind the fields before it in its record
-pub table_then_write : (t : List ℕ) (b p f : ℕ) (v : Value) (buffer : List ℕ) → Bytes t → cell_of t b p f ≡ Is v
+pub table_then_write : (t : List ℕ) (b p f : ℕ) (v : Value) (buffer : List ℕ) → Bytes t → cell_of t b p f ≡ Ok v
     → (let area = (numbers_of t).area in
     let width = width_at t area (f - 1) in
     let at = record_at (shape_of (numbers_of t)) b p + width_sum t area (f - 1) in
     width ≤ length buffer
-    → write_of (byte t (area + 2 * (f - 1))) width (content_of t v) buffer ≡ (0, range t at width ++ drop width buffer))
+    → write_of (byte t (area + 2 * (f - 1))) width (content_of t v) buffer
+    ≡ (kept, range t at width ++ drop width buffer))
 table_then_write t b p f v buffer all e fit =
     let s = stands t b p f v e in
     let l = s.located in

@@ -9,6 +9,8 @@ use native.Mathlib.Omega.{arith}
 use lib.Dec.{leb}
 use lib.ListN.{length}
 use borrow.Author.Tests.{le-leb, leb-true}
+use Rattle.std.specs.Prelude.{Ok}
+use Rattle.cell.specs.Values.{Cell}
 use Rattle.words.specs.Numbers.{Bytes, big}
 use Rattle.words.specs.Order.{NotLater, range}
 use Rattle.words.specs.Signed.{half, complemented, signed}
@@ -25,11 +27,10 @@ use Rattle.cell.specs.Doubles.{double_of}
 use Rattle.cell.specs.Reading.{least_date, most_date, signed_at, date_cell, number_cell, value_at, cell_at, HasMeaning}
 use Rattle.cell.specs.declared.value.Value.{Value}
 use Rattle.cell.specs.declared.value.Value.TheVariants as Val
-use Rattle.cell.specs.declared.value.Cell.{Cell}
-use Rattle.cell.specs.declared.value.Cell.TheVariants.{Is}
+use Rattle.cell.proofs.Exits.{no_cell}
 use Rattle.cell.proofs.AmountLaws.{less_not_equal}
 use Rattle.cell.proofs.Inverse.{read_number}
-use Rattle.cell.proofs.ReadingLaws.{no_cell, date_negative, date_early, date_late, date_is, cell_value}
+use Rattle.cell.proofs.ReadingLaws.{date_negative, date_early, date_late, date_is, cell_value}
 use Rattle.cell.proofs.RoundTrip.{read_as}
 use Rattle.cell.proofs.StoredLaws.{least_stored, most_stored, finite_stored}
 
@@ -85,13 +86,13 @@ module _ (l m n : ℕ) (p : l ≤ m) (q : m ≤ n) where
 -- ---- by bytes
 
 -- a cell that is a number is not blank
-not_blank : (kind : FieldKind) (s : List ℕ) (at w : ℕ) (v : Value) → cell_at kind s at w ≡ Is v →
+not_blank : (kind : FieldKind) (s : List ℕ) (at w : ℕ) (v : Value) → cell_at kind s at w ≡ Ok v →
     LessThan blank (amount_of v) → all_zero s at w ≡ false
 unfolding amount_of
 not_blank kind s at w v h l =
     ⊎_elim
     (λ (c : (all_zero s at w ≡ true) × (v ≡ Val.Blank)). absurd (less_not_equal (rw c.1 at l) blanks))
-    (λ (c : (all_zero s at w ≡ false) × (value_at kind s at w ≡ Is v)). c.0)
+    (λ (c : (all_zero s at w ≡ false) × (value_at kind s at w ≡ Ok v)). c.0)
     (read_as kind s at w v h).1
 
 module _ (s r t : List ℕ) (at on to w : ℕ) (bytes : Bytes s) (more : Bytes r) (others : Bytes t) (i : at + w ≤ length s)
@@ -113,7 +114,7 @@ module _ (s r t : List ℕ) (at on to w : ℕ) (bytes : Bytes s) (more : Bytes r
   -- a cell that stands between two of its kind, of which the first is a number, reads as a value if these do
   pub between_reads : (kind : FieldKind) → Compared kind → Permitted kind w →
       NotLater (range s at w) (range r on w) → NotLater (range r on w) (range t to w) → (v : Value) →
-      cell_at kind s at w ≡ Is v → LessThan blank (amount_of v) → HasMeaning (cell_at kind t to w) →
+      cell_at kind s at w ≡ Ok v → LessThan blank (amount_of v) → HasMeaning (cell_at kind t to w) →
       HasMeaning (cell_at kind r on w)
   between_reads kind e p f g v x h y =
       let z = not_blank kind s at w v x h in

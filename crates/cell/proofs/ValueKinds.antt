@@ -1,63 +1,104 @@
 -- Which kind a value is of, and the width that it then has. Assumes nothing.
-use mathlib.Core.Path.{◌≡◌, refl, sym, ap, ◌∙◌, subst}
-use mathlib.Core.Bool.{Bool, true, false, cond, ◌&&◌}
+use mathlib.Core.Path.{◌≡◌, refl, sym, ◌∙◌, subst}
+use mathlib.Core.Bool.{Bool, true, false, cond, ◌&&◌, true≢false}
 use mathlib.Core.List.{List}
 use Prim.Native.Nat.{ℕ, ◌+◌}
 use native.Mathlib.Omega.{arith}
-use lib.Dec.{eqb, leb}
+use denote.Enum.Bare.{sameb}
+use lib.Dec.{leb}
+use lib.IntN.{ℤ}
+use lib.Ieee.{Float}
 use lib.ListN.{length}
-use borrow.Author.Tests.{leb-true, eqb-true}
+use borrow.Author.Tests.{leb-true}
 use Rattle.words.specs.Order.{range}
 use Rattle.words.proofs.Conjunctions.{both}
 use Rattle.header.specs.declared.kind.FieldKind.{FieldKind}
 use Rattle.header.specs.declared.kind.FieldKind.TheVariants as Kin
+use Rattle.header.specs.contracts.kind.FieldKind.{the_type}
 use Rattle.header.specs.Kinds.{Permitted}
-use Rattle.cell.specs.Values.{value_part, nothing, text, content_of}
-use Rattle.cell.specs.Writing.{code_of, of_kind}
+use Rattle.cell.specs.Values.{Content, nothing, blank, short, long, date, number, logical, text, value_part, content_of}
+use Rattle.cell.specs.Writing.{of_kind}
 use Rattle.cell.specs.Steps.{TextInside}
 use Rattle.cell.specs.declared.value.Value.{Value}
 use Rattle.cell.specs.declared.value.Value.TheVariants as Val
 
+-- ---- the tests of a kind
+
+pub blank_kind : (kind : FieldKind) → true ≡ of_kind blank kind
+unfolding of_kind
+blank_kind kind = refl
+
+pub short_kind : (z : ℤ) (kind : FieldKind) → sameb the_type kind Kin.Short ≡ of_kind (short z) kind
+unfolding of_kind
+short_kind z Kin.Short = refl
+short_kind z kind = refl
+
+pub long_kind : (z : ℤ) (kind : FieldKind) → sameb the_type kind Kin.Long ≡ of_kind (long z) kind
+unfolding of_kind
+long_kind z Kin.Long = refl
+long_kind z kind = refl
+
+pub date_kind : (d : ℕ) (kind : FieldKind) → sameb the_type kind Kin.Date ≡ of_kind (date d) kind
+unfolding of_kind
+date_kind d Kin.Date = refl
+date_kind d kind = refl
+
+pub number_kind : (x : Float) (kind : FieldKind) → sameb the_type kind Kin.Number ≡ of_kind (number x) kind
+unfolding of_kind
+number_kind x Kin.Number = refl
+number_kind x kind = refl
+
+pub logical_kind : (b : Bool) (kind : FieldKind) → sameb the_type kind Kin.Logical ≡ of_kind (logical b) kind
+unfolding of_kind
+logical_kind b Kin.Logical = refl
+logical_kind b kind = refl
+
+text_kind : (s : List ℕ) (kind : FieldKind) → sameb the_type kind Kin.Text ≡ of_kind (text s) kind
+unfolding of_kind
+text_kind s Kin.Text = refl
+text_kind s kind = refl
+
 -- a text is of the text kind, where it is a part of the lent bytes
 pub of_kind_text : (s : List ℕ) (start len : ℕ) (kind : FieldKind)
-    → (leb (start + len) (length s) && eqb (code_of kind) (code_of Kin.Text))
-    ≡ of_kind (content_of s (Val.Text start len)) kind
+    → (leb (start + len) (length s) && sameb the_type kind Kin.Text) ≡ of_kind (content_of s (Val.Text start len)) kind
 unfolding content_of of_kind
 of_kind_text s start len kind = go (leb (start + len) (length s))
   where
     go : (b : Bool)
-        → (b && eqb (code_of kind) (code_of Kin.Text)) ≡ of_kind (cond b (text (range s start len)) nothing) kind
-    go true = refl
+        → (b && sameb the_type kind Kin.Text) ≡ of_kind (cond b (text (range s start len)) nothing) kind
+    go true = text_kind (range s start len) kind
     go false = refl
 
--- the kind of a code of `code_of`
-kind_with : ℕ → FieldKind
-kind_with code =
-    cond (eqb code (code_of Kin.Text)) Kin.Text
-    (cond (eqb code (code_of Kin.Date)) Kin.Date
-    (cond (eqb code (code_of Kin.Short)) Kin.Short
-    (cond (eqb code (code_of Kin.Long)) Kin.Long
-    (cond (eqb code (code_of Kin.Number)) Kin.Number
-    (cond (eqb code (code_of Kin.Logical)) Kin.Logical Kin.Blob)))))
+-- ---- the kind that a value is of
 
-kind_with_lem : (kind : FieldKind) → kind_with (code_of kind) ≡ kind
-unfolding kind_with
-kind_with_lem Kin.Text = refl
-kind_with_lem Kin.Date = refl
-kind_with_lem Kin.Short = refl
-kind_with_lem Kin.Long = refl
-kind_with_lem Kin.Number = refl
-kind_with_lem Kin.Logical = refl
-kind_with_lem Kin.Blob = refl
+-- a value's own kind; of a blank, and of what is no part of the lent bytes, the one that is asked for
+unfoldable pub own : Content → FieldKind → FieldKind
+own nothing kind = kind
+own blank kind = kind
+own (short z) kind = Kin.Short
+own (long z) kind = Kin.Long
+own (date d) kind = Kin.Date
+own (number x) kind = Kin.Number
+own (logical b) kind = Kin.Logical
+own (text s) kind = Kin.Text
 
--- kinds with the same code are the same
-pub same_kind : (kind other : FieldKind) → eqb (code_of kind) (code_of other) ≡ true → kind ≡ other
-same_kind kind other e = sym (kind_with_lem kind) ∙ ap kind_with (eqb-true (code_of kind) (code_of other) e) ∙ kind_with_lem other
+-- a value is of no kind but its own
+pub same_kind : (c : Content) (kind : FieldKind) → of_kind c kind ≡ true → kind ≡ own c kind
+unfolding own of_kind
+same_kind nothing kind e = refl
+same_kind blank kind e = refl
+same_kind (short z) Kin.Short e = refl
+same_kind (long z) Kin.Long e = refl
+same_kind (date d) Kin.Date e = refl
+same_kind (number x) Kin.Number e = refl
+same_kind (logical b) Kin.Logical e = refl
+same_kind (text s) Kin.Text e = refl
+same_kind content kind e = absurd (true≢false (sym e))
 
--- the width that such a kind permits
-pub same_width : (kind other : FieldKind) (w : ℕ) → eqb (code_of kind) (code_of other) ≡ true → Permitted kind w
-    → Permitted other w
-same_width kind other w e p = subst (λ (k : FieldKind). Permitted k w) (same_kind kind other e) p
+-- the width that this kind permits
+pub same_width : (c : Content) (kind : FieldKind) (w : ℕ) → of_kind c kind ≡ true → Permitted kind w
+    → Permitted (own c kind) w
+same_width c kind w e p = subst (λ (k : FieldKind). Permitted k w) (same_kind c kind e) p
 
 -- a value of a kind has its text inside the lent bytes
 pub of_kind_inside : (s : List ℕ) (v : Value) (kind : FieldKind) → of_kind (content_of s v) kind ≡ true → TextInside s v
@@ -70,5 +111,7 @@ of_kind_inside s (Val.Number x) kind e = omega arith
 of_kind_inside s (Val.Logical b) kind e = omega arith
 of_kind_inside s (Val.Text start len) kind e =
     leb-true (start + len) (length s)
-    (both {a = leb (start + len) (length s)} {b = eqb (code_of kind) (code_of Kin.Text)}
-    (of_kind_text s start len kind ∙ e)).0
+    (both {a = leb (start + len) (length s)} {b = sameb the_type kind Kin.Text} (of_kind_text s start len kind ∙ e)).0
+
+-- the tests of a kind
+pub ruleset kind_tests = (blank_kind, short_kind, long_kind, date_kind, number_kind, logical_kind, of_kind_text)

@@ -1,5 +1,5 @@
 -- The definition of writing, one law for each form and each answer. Assumes nothing.
-use mathlib.Core.Path.{◌≡◌, refl, sym, ap, ◌∙◌, subst}
+use mathlib.Core.Path.{◌≡◌, ap, subst}
 use mathlib.Core.Bool.{Bool, true, false}
 use mathlib.Core.List.{List, ◌++◌}
 use Prim.Native.Nat.{ℕ, ◌+◌, ◌-◌, ◌≤◌, ◌<◌}
@@ -9,73 +9,69 @@ use lib.ListN.{length, replicate}
 use borrow.Author.Tests.{le-leb, lt-leb, eq-eqb, ne_eqb}
 use lib.IntN.{ℤ}
 use lib.Ieee.{Float}
+use Rattle.std.specs.Prelude.{Option, Some, None, Err}
 use Rattle.words.specs.Numbers.{digits}
 use Rattle.words.specs.Order.{range}
 use Rattle.words.specs.Zeros.{before_zero}
 use Rattle.words.proofs.DigitLaws.{digits_zero}
 use Rattle.words.proofs.Ranges.{range_length, range_byte}
 use Rattle.words.proofs.ZeroLaws.{before_same, before_most, none_zero}
-use lib.Dec.{eqb}
 use Rattle.header.specs.declared.kind.FieldKind.{FieldKind}
-use Rattle.header.specs.declared.kind.FieldKind.TheVariants as Kin
-use Rattle.header.specs.declared.kind.StoredKind.TheVariants.{Kind, Unknown}
 use Rattle.header.specs.Kinds.{kind_of, is_blob, Permitted}
-use Rattle.header.specs.Refusals.{blob_cell, bad_argument, short_buffer}
+use Rattle.header.specs.declared.refusal.Refusal.TheVariants.{BlobCell, BadArgument, ShortBuffer}
 use Rattle.cell.specs.Values.{Content, short, long, date, number, logical, content_of}
-use Rattle.cell.specs.Writing.{none, bytes, code_of, signed_form, date_form, number_form, logical_byte, text_form}
+use Rattle.cell.specs.Writing.{none, bytes, signed_form, date_form, number_form, logical_byte, text_form}
 use Rattle.cell.specs.Writing.{form_of, of_kind, put_form, put_value, write_kind, write_stored, write_of}
-use Rattle.cell.proofs.ValueKinds.{same_width}
+use Rattle.cell.proofs.ValueKinds.{own, same_width}
 use Rattle.cell.specs.Steps.{coded_form, OfWidth}
 use Rattle.cell.specs.declared.value.Value.{Value}
 use Rattle.cell.specs.declared.value.Value.TheVariants as Val
-use Rattle.cell.specs.declared.form.Coded.{Coded}
-use Rattle.cell.specs.declared.form.Coded.TheVariants as Cod
 
 -- ---- a number's form, by the case of the value
 
 module _ (s : List ℕ) (v : Value) (w : ℕ) (o : OfWidth (content_of s v) w) where
   -- the width, where the value is of one kind
-  width : (c : Content) (other : FieldKind) → content_of s v ≡ c
-      → ((kind : FieldKind) → of_kind c kind ≡ eqb (code_of kind) (code_of other)) → Permitted other w
-  width c other e k =
-      let q = subst (λ (d : Content). OfWidth d w) e o in
-      same_width q.0 other w (sym (k q.0) ∙ q.1) q.2
+  width : (c : Content) → content_of s v ≡ c → (kind : FieldKind) × Permitted (own c kind) w
+  width c e = let q = subst (λ (d : Content). OfWidth d w) e o in (q.0, same_width c q.0 w q.1 q.2)
 
-  pub form_blank : v ≡ Val.Blank → coded_form w (Cod.Number 0) ≡ form_of w (content_of s v)
+  pub form_blank : v ≡ Val.Blank → coded_form w (Some 0) ≡ form_of w (content_of s v)
   unfolding content_of form_of coded_form
   form_blank e = rw e (ap bytes (digits_zero w))
 
-  pub form_short : (z : ℤ) → v ≡ Val.Short z → (k : Coded) → coded_form 2 k ≡ signed_form 2 z
+  pub form_short : (z : ℤ) → v ≡ Val.Short z → (k : Option ℕ) → coded_form 2 k ≡ signed_form 2 z
       → coded_form w k ≡ form_of w (content_of s v)
-  unfolding content_of form_of of_kind Permitted
-  form_short z e k f = let q : w ≡ 2 = width (short z) Kin.Short (ap (content_of s) e) (λ kind. refl) in rw (e, q) f
+  unfolding content_of form_of own Permitted
+  form_short z e k f = let q : w ≡ 2 = (width (short z) (ap (content_of s) e)).1 in rw (e, q) f
 
-  pub form_long : (z : ℤ) → v ≡ Val.Long z → (k : Coded) → coded_form 4 k ≡ signed_form 4 z
+  pub form_long : (z : ℤ) → v ≡ Val.Long z → (k : Option ℕ) → coded_form 4 k ≡ signed_form 4 z
       → coded_form w k ≡ form_of w (content_of s v)
-  unfolding content_of form_of of_kind Permitted
-  form_long z e k f = let q : w ≡ 4 = width (long z) Kin.Long (ap (content_of s) e) (λ kind. refl) in rw (e, q) f
+  unfolding content_of form_of own Permitted
+  form_long z e k f = let q : w ≡ 4 = (width (long z) (ap (content_of s) e)).1 in rw (e, q) f
 
-  pub form_date : (d : ℕ) → v ≡ Val.Date d → (k : Coded) → coded_form 4 k ≡ date_form 4 d
+  pub form_date : (d : ℕ) → v ≡ Val.Date d → (k : Option ℕ) → coded_form 4 k ≡ date_form 4 d
       → coded_form w k ≡ form_of w (content_of s v)
-  unfolding content_of form_of of_kind Permitted
-  form_date d e k f = let q : w ≡ 4 = width (date d) Kin.Date (ap (content_of s) e) (λ kind. refl) in rw (e, q) f
+  unfolding content_of form_of own Permitted
+  form_date d e k f = let q : w ≡ 4 = (width (date d) (ap (content_of s) e)).1 in rw (e, q) f
 
-  pub form_number : (x : Float) → v ≡ Val.Number x → (k : Coded) → coded_form 8 k ≡ number_form 8 x
+  pub form_number : (x : Float) → v ≡ Val.Number x → (k : Option ℕ) → coded_form 8 k ≡ number_form 8 x
       → coded_form w k ≡ form_of w (content_of s v)
-  unfolding content_of form_of of_kind Permitted
-  form_number x e k f = let q : w ≡ 8 = width (number x) Kin.Number (ap (content_of s) e) (λ kind. refl) in rw (e, q) f
+  unfolding content_of form_of own Permitted
+  form_number x e k f = let q : w ≡ 8 = (width (number x) (ap (content_of s) e)).1 in rw (e, q) f
 
-  pub form_logical : (b : Bool) → v ≡ Val.Logical b → (k : Coded)
+  pub form_logical : (b : Bool) → v ≡ Val.Logical b → (k : Option ℕ)
       → coded_form 1 k ≡ bytes (digits 1 (logical_byte b)) → coded_form w k ≡ form_of w (content_of s v)
-  unfolding content_of form_of of_kind Permitted
+  unfolding content_of form_of own Permitted
   form_logical b e k f =
-      let q : w ≡ 1 = width (logical b) Kin.Logical (ap (content_of s) e) (λ kind. refl) in rw (e, q) f
+      let q : w ≡ 1 = (width (logical b) (ap (content_of s) e)).1 in rw (e, q) f
 
 -- the form of a text that is lent
 pub form_text : (s : List ℕ) (v : Value) (w start len : ℕ) → v ≡ Val.Text start len → start + len ≤ length s
     → text_form w (range s start len) ≡ form_of w (content_of s v)
 unfolding content_of form_of
 form_text s v w start len e h = rw (e, le-leb (start + len) (length s) h)
+
+-- each case of a value's form
+pub ruleset forms = (form_blank, form_short, form_long, form_date, form_number, form_logical)
 
 -- ---- a text's form
 
@@ -116,24 +112,27 @@ module _ (s : List ℕ) (start len w : ℕ) (inside : start + len ≤ length s) 
         eq-eqb (before_zero s start len) len (le_antisymm (before_most s start len) z),
       )
 
+-- each case of a text's form
+pub ruleset text_forms = (text_empty, text_long, text_zero, text_fits)
+
 -- ---- the answer
 
 module _ (code w : ℕ) (c : Content) (buffer : List ℕ) where
-  pub write_unknown : kind_of code w ≡ Unknown → (bad_argument, buffer) ≡ write_of code w c buffer
+  pub write_unknown : kind_of code w ≡ None → (Err BadArgument, buffer) ≡ write_of code w c buffer
   unfolding write_of write_stored
   write_unknown e = rw e
 
-  module _ (kind : FieldKind) (e : kind_of code w ≡ Kind kind) where
-    pub write_blob : is_blob kind ≡ true → (blob_cell, buffer) ≡ write_of code w c buffer
+  module _ (kind : FieldKind) (e : kind_of code w ≡ Some kind) where
+    pub write_blob : is_blob kind ≡ true → (Err BlobCell, buffer) ≡ write_of code w c buffer
     unfolding write_of write_stored write_kind
     write_blob b = rw (e, b)
 
     module _ (plain : is_blob kind ≡ false) where
-      pub write_other : of_kind c kind ≡ false → (bad_argument, buffer) ≡ write_of code w c buffer
+      pub write_other : of_kind c kind ≡ false → (Err BadArgument, buffer) ≡ write_of code w c buffer
       unfolding write_of write_stored write_kind
       write_other f = rw (e, plain, f)
 
-      pub write_short : of_kind c kind ≡ true → length buffer < w → (short_buffer, buffer) ≡ write_of code w c buffer
+      pub write_short : of_kind c kind ≡ true → length buffer < w → (Err ShortBuffer, buffer) ≡ write_of code w c buffer
       unfolding write_of write_stored write_kind put_value
       write_short f h = rw (e, plain, f, lt-leb w (length buffer) h)
 

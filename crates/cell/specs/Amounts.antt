@@ -6,7 +6,7 @@ use Rattle.std.specs.Float.Ieee.{lt, eq}
 use Rattle.words.specs.Numbers.{Bytes}
 use Rattle.words.specs.Order.{order}
 use Rattle.words.specs.Zeros.{all_zero}
-use Rattle.words.specs.declared.Order.TheVariants.{Less}
+use Rattle.std.specs.declared.cmp.Ordering.TheVariants.{Less}
 use Rattle.header.specs.declared.kind.FieldKind.{FieldKind}
 use Rattle.header.specs.declared.kind.FieldKind.TheVariants as Kin
 use Rattle.cell.specs.declared.value.Value.{Value}

@@ -1,13 +1,13 @@
--- The values of document 01's cells, and what each case of the enums stands for. Definitions only.
-use Rattle.std.specs.Prelude.{ℕ, ◌+◌, ◌≡◌, Bool, true, cond, List, [], leb, ℤ, Float, length}
+-- The values of document 01's cells, and what each case of the enum stands for. Definitions only.
+use Rattle.std.specs.Prelude.{ℕ, ◌+◌, ◌≡◌, Bool, true, cond, List, [], leb, ℤ, Float, length, Result, Ok, Err}
 use Rattle.std.specs.Float.Ieee.{fits}
 use Rattle.std.specs.Float.{binary64}
 use Rattle.words.specs.Order.{range}
+use Rattle.words.specs.declared.part.Part.{Part}
+use Rattle.header.specs.Refusals
+use Rattle.header.specs.declared.refusal.Refusal.{Refusal}
 use Rattle.cell.specs.declared.value.Value.{Value}
 use Rattle.cell.specs.declared.value.Value.TheVariants as Val
-use Rattle.cell.specs.declared.value.Cell.{Cell}
-use Rattle.cell.specs.declared.value.Cell.TheVariants as Cel
-use Rattle.cell.specs.declared.part.Part.{Part}
 
 -- a value; a text is its bytes
 pub data Content : Type 0 where
@@ -30,10 +30,14 @@ content_of s (Val.Number x) = number x
 content_of s (Val.Logical b) = logical b
 content_of s (Val.Text start len) = cond (leb (start + len) (length s)) (text (range s start len)) nothing
 
+-- what reading a cell answers: its value, or a refusal
+abbrev pub Cell : Type 0
+Cell = Result Value Refusal
+
 -- a cell's answer as document 01's number and value: 0 and the value, or a refusal's number and no value
 unfoldable pub answer_of : List ℕ → Cell → ℕ × Content
-answer_of s (Cel.Is v) = (0, content_of s v)
-answer_of s (Cel.Refused n) = (n, nothing)
+answer_of s (Ok v) = (0, content_of s v)
+answer_of s (Err refusal) = (Refusals.number refusal, nothing)
 
 -- the bytes of a text; empty where the value is no text
 unfoldable pub text_of : Content → List ℕ
@@ -75,5 +79,5 @@ value_part (Val.Text start len) = record { start = start; len = len }
 
 -- the part that a cell's text is; the empty one where it is refused
 unfoldable pub part_of : Cell → Part
-part_of (Cel.Is v) = value_part v
-part_of (Cel.Refused n) = no_part
+part_of (Ok v) = value_part v
+part_of (Err refusal) = no_part

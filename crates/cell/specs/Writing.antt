@@ -1,15 +1,17 @@
 -- Which bytes a value has in a cell, what writing it answers, and when what was written reads back. Definitions only.
-use Rattle.std.specs.Prelude.{ℕ, suc, ◌+◌, ◌-◌, ◌≤◌, ◌≡◌, Bool, true, false, cond, not, ◌&&◌, List, [], ◌∷◌, ◌++◌, eqb, leb, ltb, ℤ, pos, negsuc, Float, length, drop, replicate}
+use Rattle.std.specs.Prelude.{ℕ, suc, ◌+◌, ◌-◌, ◌≤◌, ◌≡◌, Bool, true, false, cond, not, ◌&&◌, eqb, leb, ltb}
+use Rattle.std.specs.Prelude.{ℤ, pos, negsuc, Float, List, [], ◌∷◌, ◌++◌, length, drop, replicate}
+use Rattle.std.specs.Prelude.{Option, Some, None, Err}
 use Rattle.std.specs.Float.Ieee.Scale.{finite}
 use Rattle.words.specs.Each.{each}
 use Rattle.words.specs.Numbers.{byte, digits}
 use Rattle.words.specs.Signed.{half}
-use Rattle.header.specs.Refusals.{no_meaning, blob_cell, bad_argument, short_buffer}
+use Rattle.header.specs.Refusals.{Verdict, kept}
+use Rattle.header.specs.declared.refusal.Refusal.{Refusal}
+use Rattle.header.specs.declared.refusal.Refusal.TheVariants.{NoMeaning, BlobCell, BadArgument, ShortBuffer}
 use Rattle.header.specs.Kinds.{kind_of, is_blob}
 use Rattle.header.specs.declared.kind.FieldKind.{FieldKind}
 use Rattle.header.specs.declared.kind.FieldKind.TheVariants as Kin
-use Rattle.header.specs.declared.kind.StoredKind.{StoredKind}
-use Rattle.header.specs.declared.kind.StoredKind.TheVariants.{Kind, Unknown}
 use Rattle.cell.specs.Values.{Content, nothing, blank, short, long, date, number, logical, text, content_of}
 use Rattle.cell.specs.Values.{answer_of}
 use Rattle.cell.specs.Doubles.{stored_double}
@@ -63,57 +65,48 @@ form_of w (text s) = text_form w s
 
 -- ---- writing
 
--- a code of each kind, to tell kinds apart; currency has number's
-abbrev pub code_of : FieldKind → ℕ
-code_of Kin.Text = 0x01
-code_of Kin.Date = 0x02
-code_of Kin.Short = 0x03
-code_of Kin.Long = 0x04
-code_of Kin.Number = 0x06
-code_of Kin.Logical = 0x09
-code_of Kin.Blob = 0x0C
-
 -- whether a value is of a kind; a blank is of every kind, and what is no part of the lent bytes of none
 unfoldable pub of_kind : Content → FieldKind → Bool
 of_kind nothing kind = false
 of_kind blank kind = true
-of_kind (short z) kind = eqb (code_of kind) (code_of Kin.Short)
-of_kind (long z) kind = eqb (code_of kind) (code_of Kin.Long)
-of_kind (date d) kind = eqb (code_of kind) (code_of Kin.Date)
-of_kind (number x) kind = eqb (code_of kind) (code_of Kin.Number)
-of_kind (logical b) kind = eqb (code_of kind) (code_of Kin.Logical)
-of_kind (text s) kind = eqb (code_of kind) (code_of Kin.Text)
+of_kind (short z) Kin.Short = true
+of_kind (long z) Kin.Long = true
+of_kind (date d) Kin.Date = true
+of_kind (number x) Kin.Number = true
+of_kind (logical b) Kin.Logical = true
+of_kind (text s) Kin.Text = true
+of_kind content kind = false
 
--- 11 for no stored form; else 0, and the form in the first bytes
-unfoldable pub put_form : ℕ → Form → List ℕ → ℕ × List ℕ
-put_form w none buffer = (no_meaning, buffer)
-put_form w (bytes s) buffer = (0, s ++ drop w buffer)
+-- 11 for no stored form; else the form in the first bytes
+unfoldable pub put_form : ℕ → Form → List ℕ → Verdict × List ℕ
+put_form w none buffer = (Err NoMeaning, buffer)
+put_form w (bytes s) buffer = (kept, s ++ drop w buffer)
 
 -- 14 for a short buffer
-unfoldable pub put_value : ℕ → Content → List ℕ → ℕ × List ℕ
-put_value w c buffer = cond (leb w (length buffer)) (put_form w (form_of w c) buffer) (short_buffer, buffer)
+unfoldable pub put_value : ℕ → Content → List ℕ → Verdict × List ℕ
+put_value w c buffer = cond (leb w (length buffer)) (put_form w (form_of w c) buffer) (Err ShortBuffer, buffer)
 
 -- 12 for a blob, whatever the value; 13 for a value of another kind
-unfoldable pub write_kind : FieldKind → ℕ → Content → List ℕ → ℕ × List ℕ
+unfoldable pub write_kind : FieldKind → ℕ → Content → List ℕ → Verdict × List ℕ
 write_kind kind w c buffer =
-    cond (is_blob kind) (blob_cell, buffer)
-    (cond (of_kind c kind) (put_value w c buffer) (bad_argument, buffer))
+    cond (is_blob kind) (Err BlobCell, buffer)
+    (cond (of_kind c kind) (put_value w c buffer) (Err BadArgument, buffer))
 
 -- 13 for a bad code or width
-unfoldable pub write_stored : StoredKind → ℕ → Content → List ℕ → ℕ × List ℕ
-write_stored Unknown w c buffer = (bad_argument, buffer)
-write_stored (Kind kind) w c buffer = write_kind kind w c buffer
+unfoldable pub write_stored : Option FieldKind → ℕ → Content → List ℕ → Verdict × List ℕ
+write_stored None w c buffer = (Err BadArgument, buffer)
+write_stored (Some kind) w c buffer = write_kind kind w c buffer
 
 -- the answer and the whole buffer after it: 13, 12, 14, 11 in that order, and a refusal leaves the buffer as it was
-unfoldable pub write_of : ℕ → ℕ → Content → List ℕ → ℕ × List ℕ
+unfoldable pub write_of : ℕ → ℕ → Content → List ℕ → Verdict × List ℕ
 write_of code w c buffer = write_stored (kind_of code w) w c buffer
 
 -- what writing refuses with
-abbrev pub write_refusals : List ℕ
-write_refusals = bad_argument ∷ blob_cell ∷ short_buffer ∷ no_meaning ∷ []
+abbrev pub write_refusals : List Refusal
+write_refusals = BadArgument ∷ BlobCell ∷ ShortBuffer ∷ NoMeaning ∷ []
 
 -- the same of a Value, whose text is a part of lent bytes
-abbrev pub written_of : ℕ → ℕ → List ℕ → Value → List ℕ → ℕ × List ℕ
+abbrev pub written_of : ℕ → ℕ → List ℕ → Value → List ℕ → Verdict × List ℕ
 written_of code w s v buffer = write_of code w (content_of s v) buffer
 
 -- ---- the round trip
@@ -122,12 +115,12 @@ written_of code w s v buffer = write_of code w (content_of s v) buffer
 -- double bit by bit, the bytes behind them are as before, and so is the buffer's length
 pub record ReadsBack (code w : ℕ) (c : Content) (before after : List ℕ) : Type 0 where
   pub kind : FieldKind
-  pub coded : kind_of code w ≡ Kind kind
+  pub coded : kind_of code w ≡ Some kind
   pub room : w ≤ length before
   pub reads : answer_of after (cell_at kind after 0 w) ≡ (0, c)
   pub rest : drop w after ≡ drop w before
   pub long : length after ≡ length before
 
--- where the answer is 0, a Value, whose text is a part of lent bytes, reads back
-abbrev pub GivesBack : ℕ → ℕ → List ℕ → Value → List ℕ → ℕ × List ℕ → Type 0
-GivesBack code w s v before (n, after) = n ≡ 0 → ReadsBack code w (content_of s v) before after
+-- where writing is not refused, a Value, whose text is a part of lent bytes, reads back
+abbrev pub GivesBack : ℕ → ℕ → List ℕ → Value → List ℕ → Verdict × List ℕ → Type 0
+GivesBack code w s v before (verdict, after) = verdict ≡ kept → ReadsBack code w (content_of s v) before after

@@ -7,9 +7,9 @@ ghost use Rattle.header.specs.Kinds.{Permitted};
 ghost use Rattle.cell.specs.Doubles.{double_of};
 ghost use Rattle.cell.specs.Reading.{cell_at, date_cell, logical_cell, number_cell, text_with};
 
-use crate::value::{Cell, Value};
+use crate::value::Value;
 use crate::{double, limits};
-use header::{FieldKind, refusal};
+use header::{FieldKind, Refusal};
 
 // A short of two bytes: the top bit complemented, then signed.
 fn short_of(n: u64) -> i16
@@ -28,86 +28,87 @@ fn long_of(n: u64) -> i32
 }
 
 // A date: the number of a long, from LEAST_DATE to MOST_DATE.
-fn date_of(n: u64) -> Cell
+#[tactic(auto, using(crate::proofs::ReadingLaws::dates))]
+fn date_of(n: u64) -> Result<Value, Refusal>
     requires { n < 4294967296 }
     ensures { result ≡ date_cell (signed (half 4) (complemented (half 4) n)) }
 {
     if n < limits::DATE_TOP {
-        return Cell::Refused(refusal::NO_MEANING);
+        return Err(Refusal::NoMeaning);
     }
     let day = n - limits::DATE_TOP;
     if day < limits::LEAST_DATE {
-        return Cell::Refused(refusal::NO_MEANING);
+        return Err(Refusal::NoMeaning);
     }
     if limits::MOST_DATE < day {
-        return Cell::Refused(refusal::NO_MEANING);
+        return Err(Refusal::NoMeaning);
     }
-    Cell::Is(Value::Date(day as u32))
+    Ok(Value::Date(day as u32))
 }
 
 // A number or currency: finite doubles only.
-fn number_of(n: u64) -> Cell
+#[tactic(auto, using(crate::proofs::ReadingLaws::numbers), unfolding(crate::specs::Doubles::double_of))]
+fn number_of(n: u64) -> Result<Value, Refusal>
     ensures { result ≡ number_cell (double_of 8 n) }
 {
     let bits = double::bits_of(n);
     if !double::is_finite(bits) {
-        return Cell::Refused(refusal::NO_MEANING);
+        return Err(Refusal::NoMeaning);
     }
-    Cell::Is(Value::Number(f64::from_bits(bits)))
+    Ok(Value::Number(f64::from_bits(bits)))
 }
 
 // A logical: FALSE or TRUE.
-fn logical_of(n: u64) -> Cell
+#[tactic(auto, unfolding(crate::specs::Reading::logical_cell))]
+fn logical_of(n: u64) -> Result<Value, Refusal>
     ensures { result ≡ logical_cell n }
 {
     if n == limits::FALSE {
-        return Cell::Is(Value::Logical(false));
+        return Ok(Value::Logical(false));
     }
     if n == limits::TRUE {
-        return Cell::Is(Value::Logical(true));
+        return Ok(Value::Logical(true));
     }
-    Cell::Refused(refusal::NO_MEANING)
+    Err(Refusal::NoMeaning)
 }
 
 // The bytes before the first zero, where nothing but zeros follows.
-fn text_at(t: &[u8], at: usize, width: usize) -> Cell
+#[tactic(auto, using(crate::proofs::ReadingLaws::texts))]
+fn text_at(t: &[u8], at: usize, width: usize) -> Result<Value, Refusal>
     requires { at + width ≤ length t.now }
     ensures { result ≡ text_with t.now at width (before_zero t.now at width) }
 {
     let len = words::before_zero(t, at, width);
     if !words::all_zero(t, at + len, width - len) {
-        return Cell::Refused(refusal::NO_MEANING);
+        return Err(Refusal::NoMeaning);
     }
-    Cell::Is(Value::Text { start: at, len })
+    Ok(Value::Text { start: at, len })
 }
 
 // The meaning of the `width` bytes at `at`. The last arm is not reached: blobs are refused first.
 // A helper of `read_in` and of the crates above, and no call for users: its caller has found the cell in the table.
-pub fn cell_at(t: &[u8], kind: FieldKind, at: usize, width: usize) -> Cell
+#[tactic(auto, using(crate::proofs::ReadingLaws::cells), unfolding(header::specs::Kinds::Permitted))]
+pub fn cell_at(t: &[u8], kind: FieldKind, at: usize, width: usize) -> Result<Value, Refusal>
     requires { Permitted kind width × (at + width ≤ length t.now) }
     ensures { result ≡ cell_at kind t.now at width }
 {
     if kind.is_blob() {
-        return Cell::Refused(refusal::BLOB_CELL);
+        return Err(Refusal::BlobCell);
     }
     if words::all_zero(t, at, width) {
-        return Cell::Is(Value::Blank);
+        return Ok(Value::Blank);
     }
     match kind {
         FieldKind::Text => text_at(t, at, width),
         FieldKind::Date => date_of(words::number(t, at, FieldKind::DATE_WIDTH)),
-        FieldKind::Short => Cell::Is(Value::Short(short_of(words::number(
+        FieldKind::Short => Ok(Value::Short(short_of(words::number(
             t,
             at,
             FieldKind::SHORT_WIDTH,
         )))),
-        FieldKind::Long => Cell::Is(Value::Long(long_of(words::number(
-            t,
-            at,
-            FieldKind::LONG_WIDTH,
-        )))),
-        FieldKind::Number => number_of(words::number(t, at, FieldKind::NUMBER_WIDTH)),
+        FieldKind::Long => Ok(Value::Long(long_of(words::number(t, at, FieldKind::LONG_WIDTH)))),
+        FieldKind::Number => number_of(words::eight(t, at)),
         FieldKind::Logical => logical_of(words::number(t, at, FieldKind::LOGICAL_WIDTH)),
-        FieldKind::Blob => Cell::Refused(refusal::BLOB_CELL),
+        FieldKind::Blob => Err(Refusal::BlobCell),
     }
 }

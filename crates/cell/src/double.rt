@@ -10,6 +10,7 @@ ghost use Rattle.cell.specs.Doubles.{meant_bits, stored_double};
 use crate::limits;
 
 // The bits that a stored number means: top bit 1: cleared; top bit 0: all 64 bits complemented.
+#[tactic(auto, using(crate::proofs::StoredLaws::meant_from, crate::proofs::StoredLaws::meant_below))]
 pub fn bits_of(n: u64) -> u64
     ensures { result ≡ meant_bits (half 8) n }
 {
@@ -21,11 +22,12 @@ pub fn bits_of(n: u64) -> u64
 
 // The number that a finite double is stored as. Its sign is a bit, which negative zero has too.
 // A helper of `form::number_form` and no call for users: its caller has tested the double.
+#[tactic(auto, using(crate::proofs::StoredLaws::stored), unfolding(crate::specs::Doubles::stored_double))]
 pub fn stored_of(x: f64) -> u64
     requires { finite x ≡ true }
     ensures { result ≡ stored_double 8 x }
 {
-    let bits = f64::to_bits(x);
+    let bits = x.to_bits();
     if limits::NUMBER_TOP <= bits {
         return !bits;
     }
@@ -33,6 +35,7 @@ pub fn stored_of(x: f64) -> u64
 }
 
 // Whether these are the bits of a finite number: a test of bits, which no not-a-number gets through.
+#[tactic(auto, using(crate::proofs::DoubleLaws::finite_is))]
 pub fn is_finite(bits: u64) -> bool
     ensures { result ≡ finite (of_bits binary64 bits) }
 {

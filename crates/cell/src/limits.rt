@@ -10,9 +10,9 @@ pub const DATE_TOP: u64 = LONG_TOP as u64;
 pub const NUMBER_TOP: u64 = 0x8000_0000_0000_0000;
 
 // The values that would be stored as the blank.
-pub const LEAST_SHORT: i16 = -32768;
+pub const LEAST_SHORT: i16 = i16::MIN;
 
-pub const LEAST_LONG: i32 = -2147483648;
+pub const LEAST_LONG: i32 = i32::MIN;
 
 // The dates that have a meaning, by day number.
 pub const LEAST_DATE: u64 = 36160;

@@ -1,43 +1,34 @@
 // Where a cell stands: step 1 finds block and field, step 2 count and place.
-// Both are helpers, also of the crates above: their caller has read the header of this table and found it accepted.
+// Both are helpers, also of the crates above.
 ghost use Rattle.std.specs.Prelude.{◌≡◌, ◌≤◌};
-ghost use Rattle.header.specs.Rules.{Accepted};
-ghost use Rattle.blocks.specs.Shape.{Sound};
 ghost use Rattle.cell.specs.Locating.{field_at, place_at};
 
-use blocks::{Count, Shape};
-use header::{Field, Header, refusal};
+use blocks::{BlockFile, Shape};
+use header::{Field, Refusal, Table};
 
-// Where a cell begins in the table; or that the block's count is bad (9) or has no such place (13).
-#[derive(Clone, Copy)]
-pub enum Place {
-    At(usize),
-    Refused(u8),
-}
-
-// Step 1: the field, counted from 1, of a block of the file. Missing is refused with 13, before step 2's 9. A caller
+// Step 1: the field, counted from 1, of a block of the file. None is refused with 13, before step 2's 9. A caller
 // that asks for one kind of field refuses any other there, with the same number.
-pub fn field_in(table: &[u8], h: Header, block: usize, field: usize) -> Field
-    requires { Accepted table.now h }
-    ensures { result ≡ field_at table.now h block field }
+#[tactic(auto, using(crate::proofs::LocatingLaws::field_no_block, crate::proofs::LocatingLaws::field_of_block))]
+pub fn field_in(table: &Table, block: usize, field: usize) -> Option<Field>
+    ensures { result ≡ field_at table.now.bytes.now table.now.header block field }
 {
-    if !blocks::has_block(blocks::shape_of(h), block) {
-        return Field::Missing;
+    if !Shape::of(&table.header).has_block(block) {
+        return None;
     }
-    header::field_of(table, h, field)
+    table.field(field)
 }
 
-// Step 2: where the cell at this offset of its record begins; places count from 0. Step 1 has found the block.
-pub fn place_in(table: &[u8], shape: Shape, block: usize, place: usize, offset: u16) -> Place
-    requires { (1 ≤ block) × (block ≤ shape.blocks) × Sound table.now shape }
-    ensures { result ≡ place_at table.now shape block place offset }
+// Step 2: where the cell at this offset of its record begins; places count from 0. Refuses a bad count (9), then a
+// place that the count does not reach (13). Step 1 has found the block.
+#[tactic(auto, using(crate::proofs::LocatingLaws::places))]
+pub fn place_in(file: &BlockFile, block: usize, place: usize, offset: u16) -> Result<usize, Refusal>
+    requires { (1 ≤ block) × (block ≤ file.now.shape.blocks) }
+    ensures { result ≡ place_at file.now.bytes.now file.now.shape block place offset }
 {
-    let Count::Records(records) = blocks::count_in(table, shape, block) else {
-        return Place::Refused(refusal::WRONG_COUNT);
-    };
+    let records = file.count(block).ok_or(Refusal::WrongCount)?;
     if records as usize <= place {
-        return Place::Refused(refusal::BAD_ARGUMENT);
+        return Err(Refusal::BadArgument);
     }
-    let at = blocks::record_at(shape, block, place) + offset as usize;
-    Place::At(at)
+    let at = file.shape.record_at(block, place) + offset as usize;
+    Ok(at)
 }

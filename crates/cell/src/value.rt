@@ -12,10 +12,3 @@ pub enum Value {
     Logical(bool),
     Text { start: usize, len: usize },
 }
-
-// What reading a cell answers: its value, or a refusal's number.
-#[derive(Clone, Copy)]
-pub enum Cell {
-    Is(Value),
-    Refused(u8),
-}

@@ -8,56 +8,42 @@ use crate::records::list;
 use crate::values::VALUE;
 use crate::written::write;
 use test_lines::after::after;
-use test_lines::lines::{Buffer, CASE, Line, SIZE, end, fresh, part, step};
+use test_lines::cases::Cases;
+use test_lines::lines::{Buffer, Line, part};
 
 // How long the buffer is that a value is written into, and how many bytes are lent for a text, at a line's start.
 const ROOM: usize = 12;
 
 const LENT: usize = 7;
 
-// A new line.
-fn ready() -> Line {
-    let mut l = fresh();
-    l.marks = ROOM;
-    l.index = LENT;
-    l
-}
+// What this program does with its cases.
+#[derive(Drop)]
+pub struct Cells;
 
-// Takes a byte of the cases.
-fn feed(t: &mut Buffer, first: &mut Buffer, line: Line, b: u8) -> Line {
-    if b == b'\n' {
-        if line.kind == CASE {
-            list(part(t, line.long));
+impl Cases for Cells {
+    fn ready(&self) -> Line {
+        let mut line = Line::fresh();
+        line.marks = ROOM;
+        line.index = LENT;
+        line
+    }
+
+    fn show(&self, t: &Buffer, line: Line) {
+        list(part(t, line.long));
+    }
+
+    fn keep(&mut self, _line: Line) {}
+
+    // Shows what a command asks for. Behind `v` the value's place is the next number.
+    fn act(&mut self, t: &mut Buffer, line: Line) -> Line {
+        let table = part(t, line.long);
+        match line.command {
+            Some(b'?') => show(b' ', table, line.first, line.second, line.number),
+            Some(b'l') => list(table),
+            Some(b'B' | b'S' | b'L' | b'D' | b'N' | b'F' | b'T' | b'P') => write(t, line),
+            Some(b'v') => return line.noted(VALUE),
+            _ => {}
         }
-        end(t, first, line);
-        return ready();
-    }
-    step(t, line, b)
-}
-
-// Shows what a command asks for.
-fn ask(t: &Buffer, line: Line) {
-    let table = part(t, line.long);
-    let command = line.command;
-    match command {
-        b'?' => show(b' ', table, line.first, line.second, line.number),
-        b'l' => list(table),
-        b'B' | b'S' | b'L' | b'D' | b'N' | b'F' | b'T' | b'P' => write(t, line),
-        _ => {}
-    }
-}
-
-// Shows the cases of some lines; the first table is zero.
-pub fn run(lines: &[u8]) {
-    let mut t = [0u8; SIZE];
-    let mut first = [0u8; SIZE];
-    let mut line = ready();
-    let mut i: usize = 0;
-    while i < lines.len() {
-        let b = lines[i];
-        i += 1;
-        line = feed(&mut t, &mut first, line, b);
-        ask(&t, line);
-        line = after(&mut t, line, b'v', VALUE);
+        after(t, line)
     }
 }

@@ -1,15 +1,15 @@
 // A cell as text: `short 12`, `blank`, `!13` for refusal 13. Behind a text, `text 3 at 1286`, stand its bytes, `[cog]`.
-use cell::{Cell, Value};
-use test_lines::print::{STDOUT_FILENO, decimal, letter, say};
+use cell::Value;
+use test_lines::print::{STDOUT_FILENO, letter, number, refused, say};
 
 // The number n - top, which may be below 0.
 fn less(n: u64, top: u64) {
     if n < top {
         letter(b'-');
-        decimal(top - n);
+        number(top - n);
         return;
     }
-    decimal(n - top);
+    number(n - top);
 }
 
 fn short(z: i16) {
@@ -24,32 +24,27 @@ fn long(z: i32) {
 
 fn date(day: u32) {
     say(b"date ");
-    decimal(day as u64);
+    number(day);
 }
 
 // The bits of a double, high first; a not-a-number has none to ask for.
 fn double(x: f64) {
     say(b"number ");
-    if x != x {
-        return;
+    if !x.is_nan() {
+        io::print_hex(STDOUT_FILENO, x.to_bits(), 16);
     }
-    io::print_hex(STDOUT_FILENO, f64::to_bits(x), 16);
 }
 
 fn logical(b: bool) {
     say(b"logical ");
-    if b {
-        letter(b'T');
-        return;
-    }
-    letter(b'F');
+    letter(if b { b'T' } else { b'F' });
 }
 
 fn text(start: usize, len: usize) {
     say(b"text ");
-    decimal(len as u64);
+    number(len as u64);
     say(b" at ");
-    decimal(start as u64);
+    number(start as u64);
 }
 
 fn value(v: Value) {
@@ -64,21 +59,9 @@ fn value(v: Value) {
     }
 }
 
-pub fn refused(n: u8) {
-    letter(b'!');
-    decimal(n as u64);
-}
-
-fn answer(c: Cell) {
-    match c {
-        Cell::Is(v) => value(v),
-        Cell::Refused(n) => refused(n),
-    }
-}
-
 // The text of a cell; an empty part is left out.
 fn bytes(s: &[u8]) {
-    if s.len() == 0 {
+    if s.is_empty() {
         return;
     }
     letter(b' ');
@@ -90,6 +73,9 @@ fn bytes(s: &[u8]) {
 // Shows the cell at a block, place and field, with a letter before it.
 pub fn show(before: u8, table: &[u8], block: usize, place: usize, field: usize) {
     letter(before);
-    answer(cell::read(table, block, place, field));
+    match cell::read(table, block, place, field) {
+        Ok(v) => value(v),
+        Err(refusal) => refused(refusal),
+    }
     bytes(cell::text(table, block, place, field));
 }

@@ -8,10 +8,12 @@ mod records;
 mod values;
 mod written;
 
+use cases::Cells;
+use test_lines::cases::run;
 use test_lines::print::STDIN_FILENO;
 
 fn main() {
     let mut text = io::large_buffer();
     let n = io::read_full(STDIN_FILENO, &mut text);
-    cases::run(&text[..n]);
+    run(&mut Cells, &text[..n]);
 }

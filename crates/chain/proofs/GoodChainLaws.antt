@@ -6,7 +6,7 @@ use native.Mathlib.Omega.{arith}
 use lib.ListN.{length}
 use Rattle.blocks.specs.Counts.{count_in}
 use Rattle.blocks.specs.declared.Shape.{Shape}
-use Rattle.blocks.specs.declared.count.Count.TheVariants.{Records}
+use Rattle.std.specs.Prelude.{Some}
 use Rattle.blocks.proofs.CountLaws.{not_bad_records}
 use Rattle.chain.specs.Links.{next_of, blocks_from}
 use Rattle.chain.specs.Rules.{Chain, ends, leads, GoodChain, GoodFrom}
@@ -18,7 +18,7 @@ module _ (t : List ℕ) (g : Shape) where
     pub low : 1 ≤ b
     pub high : b ≤ g.blocks
     pub count : ℕ
-    pub counted : count_in t g b ≡ Records count
+    pub counted : count_in t g b ≡ Some count
     pub onward : GoodChain t g (next_of t g b) others
 
   -- a chain without blocks is at number 0

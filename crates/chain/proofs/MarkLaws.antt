@@ -3,7 +3,7 @@
 -- nothing.
 use Prim.Native.Nat.{ℕ, zero, suc, ◌+◌, ◌-◌, ◌≤◌, ◌<◌}
 use mathlib.Core.Path.{◌≡◌, refl, sym, ◌∙◌}
-use mathlib.Core.Bool.{Bool, true, false, cond, not, ◌&&◌}
+use mathlib.Core.Bool.{Bool, true, false, cond, not, ◌&&◌, false≢true}
 use mathlib.Core.List.{List, [], ◌∷◌}
 use native.Mathlib.Omega.{arith}
 use native.Mathlib.Numerals.{one-add}
@@ -14,7 +14,11 @@ use lib.Dec.{eqb, eqb-suc-zero}
 use borrow.Author.Tests.{eqb-true, eqb-false, eq-eqb, ne_eqb, not-true}
 use Rattle.words.proofs.Cases.{cond_same}
 use Rattle.words.proofs.Conjunctions.{both, join}
-use Rattle.words.proofs.EachLaws.{each_gives, each_takes}
+use Rattle.words.specs.Each.{each}
+use Rattle.std.specs.List.{list_any}
+use Rattle.std.proofs.lemmas.List.Folds.{Any-from_list_any, list_any_at}
+use Rattle.std.proofs.lemmas.Grind.{get_or_default_zero}
+use Rattle.words.proofs.EachLaws.{each_gives, each_takes, each_fails}
 use Rattle.blocks.specs.Shape.{in_file}
 use Rattle.blocks.proofs.ShapeLaws.{in_file_lem, file_has}
 use Rattle.chain.specs.Chain.{Links, every, times, every_block_once, linked, names, last_of, used_chain, free_chain}
@@ -28,6 +32,27 @@ pub bool_same : (a b : Bool) → (a ≡ true → b ≡ true) → (b ≡ true →
 bool_same true b f g = sym (f refl)
 bool_same false true f g = g refl
 bool_same false false f g = refl
+
+-- ---- the look for a block without a mark
+
+module _ (m : List ℕ) where
+  abbrev no_mark : ℕ → Bool
+  no_mark x = eqb x 0
+
+  -- every block has a mark where none without one is found
+  pub none_unmarked : not (list_any no_mark m) ≡ all_marked m
+  unfolding all_marked
+  none_unmarked = go (list_any no_mark m) refl
+    where
+      go : (b : Bool) → list_any no_mark m ≡ b → not b ≡ each (has_mark m) (length m)
+      go true e =
+          let (i, x, l, here, none) = Any-from_list_any no_mark m e in
+          sym (each_fails (has_mark m) (length m) i l (rw (← (get_or_default_zero m i x l), here, none)))
+      go false e = sym (each_takes (has_mark m) (length m) (λ i l. one (eqb (get_or m i 0) 0) i l refl))
+        where
+          one : (b : Bool) (i : ℕ) → i < length m → eqb (get_or m i 0) 0 ≡ b → not b ≡ true
+          one true i l f = absurd (false≢true (sym e ∙ list_any_at no_mark m i 0 l f))
+          one false i l f = refl
 
 -- ---- one mark
 

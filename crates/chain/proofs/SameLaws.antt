@@ -11,7 +11,8 @@ use Rattle.blocks.specs.declared.Shape.{Shape}
 use Rattle.chain.specs.Links.{previous_word, next_of, previous_of, links_of, used_of, free_of, SameLinks}
 
 module _ (t u : List ℕ) (g : Shape) (b : ℕ) where
-  pub next_same : ((i : ℕ) → i < 2 → byte u (block_at g b + i) ≡ byte t (block_at g b + i)) → next_of u g b ≡ next_of t g b
+  pub next_same : ((i : ℕ) → i < 2 → byte u (block_at g b + i) ≡ byte t (block_at g b + i)) →
+      next_of u g b ≡ next_of t g b
   unfolding next_of
   next_same h = little_same u t (block_at g b) (block_at g b) 2 h
 

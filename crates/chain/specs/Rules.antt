@@ -1,8 +1,7 @@
 -- The chain rules as plain propositions (refusal 8), and what a good chain gives the crates above. Definitions only.
-use Rattle.std.specs.Prelude.{ℕ, suc, ◌+◌, ◌≤◌, ◌<◌, ◌≡◌, List, [], ◌∷◌, length, get_or}
+use Rattle.std.specs.Prelude.{ℕ, suc, ◌+◌, ◌≤◌, ◌<◌, ◌≡◌, List, [], ◌∷◌, length, get_or, None}
 use Rattle.blocks.specs.Counts.{count_in}
 use Rattle.blocks.specs.declared.Shape.{Shape}
-use Rattle.blocks.specs.declared.count.Count.TheVariants.{Bad}
 use Rattle.chain.specs.Chain.{Links, times, last_of}
 use Rattle.chain.specs.Links.{next_of, blocks_from}
 
@@ -37,7 +36,7 @@ pub record GoodChain (t : List ℕ) (g : Shape) (b : ℕ) (bs : List ℕ) : Type
   pub chain : Chain (next_of t g) b bs
   pub inside : Inside g.blocks bs
   pub few : length bs ≤ g.blocks
-  pub counts : (i : ℕ) → i < length bs → count_in t g (get_or bs i 0) ≡ Bad → ⊥
+  pub counts : (i : ℕ) → i < length bs → count_in t g (get_or bs i 0) ≡ None → ⊥
 
 -- the same of what following next gives
 abbrev pub GoodFrom : List ℕ → Shape → ℕ → Type 0

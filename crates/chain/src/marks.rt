@@ -14,25 +14,14 @@ pub fn clear(marks: &mut [u8], n: usize)
     requires { n ≤ length marks.old }
     ensures { marks.new ≡ replicate n unmarked ++ drop n marks.old }
 {
-    let mut i = 0;
-    while i < n {
-        marks[i] = UNMARKED;
-        i += 1;
-    }
+    marks[..n].fill(UNMARKED);
 }
 
 // Whether every block has a mark.
 pub fn all_marked(marks: &[u8]) -> bool
     ensures { result ≡ all_marked marks.now }
 {
-    let mut i = 0;
-    while i < marks.len() {
-        if marks[i] == UNMARKED {
-            return false;
-        }
-        i += 1;
-    }
-    true
+    !marks.contains(&UNMARKED)
 }
 
 // Whether a number is that of a block without a mark; there are as many blocks as marks.

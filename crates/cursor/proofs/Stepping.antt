@@ -3,15 +3,16 @@ use Prim.Native.Nat.{ℕ, zero, suc, ◌+◌, ◌≤◌}
 use mathlib.Core.Path.{◌≡◌, refl, ap}
 use mathlib.Core.Bool.{true}
 use mathlib.Core.List.{List, [], ◌∷◌, ◌++◌}
+use Rattle.std.specs.Prelude.{Some, Ok}
 use native.Mathlib.Nat.{zero-add}
 use native.Mathlib.Numerals.{add-one}
 use native.Mathlib.Omega.{arith}
 use lib.ListN.{length}
+use Rattle.header.specs.Refusals.{kept}
 use Rattle.header.specs.Numbers.{numbers_of}
 use Rattle.blocks.specs.Shape.{shape_of}
 use Rattle.blocks.specs.Counts.{count_in}
 use Rattle.blocks.specs.declared.Shape.{Shape}
-use Rattle.blocks.specs.declared.count.Count.TheVariants.{Records}
 use Rattle.blocks.proofs.ShapeLaws.{shape_blocks}
 use Rattle.chain.specs.Links.{next_of, used_of}
 use Rattle.chain.specs.Rules.{GoodChain}
@@ -22,23 +23,22 @@ use Rattle.table.specs.Rules.{AcceptedTable}
 use Rattle.table.proofs.GoodChainLaws.{good_begins}
 use Rattle.table.proofs.OnceLaws.{record_once, record_no_more}
 use Rattle.table.proofs.RuleLaws.{accepted_table}
-use Rattle.cursor.specs.Cursor.{at_end, standing, in_reach, first_from, start_of, step_of}
+use Rattle.cursor.specs.Cursor.{Stepped, at_end, standing, in_reach, first_from, start_of, step_of}
 use Rattle.cursor.specs.Rules.{position_of, Gives, none, one, EveryRecord}
 use Rattle.cursor.specs.declared.Cursor.{Cursor}
-use Rattle.cursor.specs.declared.Step.{Step}
 use Rattle.cursor.specs.declared.Step.TheVariants.{Record}
 use Rattle.cursor.proofs.CursorLaws.{in_reach_lem, from_end, from_record, from_empty, step_stays, step_moves}
 use Rattle.cursor.proofs.CursorLaws.{start_accepted, step_accepted}
 
-module _ (t : List ℕ) (room : ℕ) (accepted : table_answer t room ≡ 0) where
+module _ (t : List ℕ) (room : ℕ) (accepted : table_answer t room ≡ kept) where
   abbrev g : Shape
   g = shape_of (numbers_of t)
 
   -- from a place of a block on: its n + 1 records that are left, then what comes after the block
-  places_give : (b moves count : ℕ) → in_reach g b moves ≡ true → count_in t g b ≡ Records count
+  places_give : (b moves count : ℕ) → in_reach g b moves ≡ true → count_in t g b ≡ Some count
       → (rest : List Position) → ((back : Cursor) → Gives t (first_from t g back (moves + 1) (next_of t g b)) rest)
       → (n place : ℕ) → place + suc n ≡ count
-      → Gives t (Record (standing b place moves)) (places_from b place (suc n) ++ rest)
+      → Gives t (Ok (Record (standing b place moves))) (places_from b place (suc n) ++ rest)
   unfolding places_from
   places_give b moves count e k rest after zero place s =
       let c = standing b place moves in
@@ -71,7 +71,7 @@ module _ (t : List ℕ) (room : ℕ) (accepted : table_answer t room ≡ 0) wher
           ne : x ≡ 0 → ⊥
           ne z = omega (arith, q.low)
 
-          go : (n : ℕ) → count_in t g x ≡ Records n →
+          go : (n : ℕ) → count_in t g x ≡ Some n →
               Gives t (first_from t g back moves x) (places_from x 0 n ++ records_in t g bs)
           go zero k = rw (from_empty t g back moves x ne e 0 k refl) (after back)
           go (suc n) k =
@@ -80,7 +80,7 @@ module _ (t : List ℕ) (room : ℕ) (accepted : table_answer t room ≡ 0) wher
 
 -- ---- what stepping gives is determined
 
-pub gives_only : (t : List ℕ) (s : Step) (ps qs : List Position) → Gives t s ps → Gives t s qs → ps ≡ qs
+pub gives_only : (t : List ℕ) (s : Stepped) (ps qs : List Position) → Gives t s ps → Gives t s qs → ps ≡ qs
 unfolding at_end
 gives_only t s ps qs none none = refl
 gives_only t s ps qs (one {c = c} {ps = us} g) (one {ps = vs} k) =
@@ -88,14 +88,14 @@ gives_only t s ps qs (one {c = c} {ps = us} g) (one {ps = vs} k) =
 
 -- ---- over an accepted table every record comes once, in chain order, and then the end; nothing is refused
 
-start_gives : (t : List ℕ) (room : ℕ) → table_answer t room ≡ 0 → AcceptedTable t (numbers_of t) →
+start_gives : (t : List ℕ) (room : ℕ) → table_answer t room ≡ kept → AcceptedTable t (numbers_of t) →
     Gives t (start_of t) (records_of t (numbers_of t))
 start_gives t room e a =
     let h = numbers_of t in
     rw (start_accepted t room e) (chain_gives t room e (used_of t h) h.first 0 (good_begins t h a)
     (omega (arith, a.few_blocks, shape_blocks h)) at_end)
 
-pub stepping : (t : List ℕ) (room : ℕ) → table_answer t room ≡ 0 → EveryRecord t (numbers_of t)
+pub stepping : (t : List ℕ) (room : ℕ) → table_answer t room ≡ kept → EveryRecord t (numbers_of t)
 stepping t room e =
     let h = numbers_of t in
     let a = accepted_table t room e in

@@ -1,18 +1,18 @@
 -- What starting and stepping come to, as plain propositions. Definitions only.
-use Rattle.std.specs.Prelude.{ℕ, suc, ◌≤◌, ◌<◌, ◌≡◌, true, false, List, [], ◌∷◌}
+use Rattle.std.specs.Prelude.{ℕ, suc, ◌≤◌, ◌<◌, ◌≡◌, true, false, List, [], ◌∷◌, Some, Ok, Err}
 use Rattle.header.specs.Refusals.{one_of}
 use Rattle.header.specs.declared.Header.{Header}
+use Rattle.header.specs.declared.refusal.Refusal.{Refusal}
 use Rattle.blocks.specs.Shape.{shape_of}
 use Rattle.blocks.specs.Counts.{count_in}
 use Rattle.blocks.specs.declared.Shape.{Shape}
-use Rattle.blocks.specs.declared.count.Count.TheVariants.{Records}
 use Rattle.chain.specs.Chain.{times}
 use Rattle.chain.specs.Links.{used_of}
 use Rattle.table.specs.Records.{Position, held, records_of, comes}
-use Rattle.cursor.specs.Cursor.{at_end, start_of, step_of}
+use Rattle.cursor.specs.Cursor.{Stepped, refused, at_end, start_of, step_of}
 use Rattle.cursor.specs.declared.Cursor.{Cursor}
-use Rattle.cursor.specs.declared.Step.{Step}
-use Rattle.cursor.specs.declared.Step.TheVariants.{Record, End, Refused}
+use Rattle.cursor.specs.declared.Step.TheVariants.{Record, End}
+use Rattle.cursor.specs.declared.Refused.{Refused}
 
 -- ---- one answer, of any bytes
 
@@ -24,15 +24,15 @@ pub record OnRecord (t : List ℕ) (g : Shape) (c : Cursor) : Type 0 where
   pub high : c.block ≤ g.blocks
   pub few_moves : c.moves < g.blocks
   pub count : ℕ
-  pub counted : count_in t g c.block ≡ Records count
+  pub counted : count_in t g c.block ≡ Some count
   pub there : c.place < count
 
 -- an answer is a cursor on a record, the end with numbers 0, or one of these refusals with the cursor that is to be
 -- handed back
-pub data Answered (refusals t : List ℕ) (g : Shape) (back : Cursor) : Step → Type 0 where
-  found : {c : Cursor} → OnRecord t g c → Answered refusals t g back (Record c)
-  over : Answered refusals t g back (End at_end)
-  refusing : {n : ℕ} → one_of refusals n ≡ true → Answered refusals t g back (Refused n back)
+pub data Answered (refusals : List Refusal) (t : List ℕ) (g : Shape) (back : Cursor) : Stepped → Type 0 where
+  found : {c : Cursor} → OnRecord t g c → Answered refusals t g back (Ok (Record c))
+  over : Answered refusals t g back (Ok (End at_end))
+  refusing : {r : Refusal} → one_of refusals r ≡ true → Answered refusals t g back (refused r back)
 
 -- cursor d comes after cursor c: at the next place of the same block, or with more moves made
 pub data After (c d : Cursor) : Type 0 where
@@ -42,10 +42,10 @@ pub data After (c d : Cursor) : Type 0 where
 -- ---- all answers, of any bytes
 
 -- from an answer on, stepping comes to one that is no record
-pub data Ends (t : List ℕ) : Step → Type 0 where
-  by_end : {c : Cursor} → Ends t (End c)
-  by_refusal : {n : ℕ} {c : Cursor} → Ends t (Refused n c)
-  later : {c : Cursor} → Ends t (step_of t c) → Ends t (Record c)
+pub data Ends (t : List ℕ) : Stepped → Type 0 where
+  by_end : {c : Cursor} → Ends t (Ok (End c))
+  by_refusal : {r : Refused} → Ends t (Err r)
+  later : {c : Cursor} → Ends t (step_of t c) → Ends t (Ok (Record c))
 
 -- ---- all answers, of an accepted table
 
@@ -54,9 +54,9 @@ abbrev pub position_of : Cursor → Position
 position_of c = record { block = c.block; place = c.place }
 
 -- from an answer on, stepping gives these records in this order and then the end, and no answer is a refusal
-pub data Gives (t : List ℕ) : Step → List Position → Type 0 where
-  none : Gives t (End at_end) []
-  one : {c : Cursor} {ps : List Position} → Gives t (step_of t c) ps → Gives t (Record c) (position_of c ∷ ps)
+pub data Gives (t : List ℕ) : Stepped → List Position → Type 0 where
+  none : Gives t (Ok (End at_end)) []
+  one : {c : Cursor} {ps : List Position} → Gives t (step_of t c) ps → Gives t (Ok (Record c)) (position_of c ∷ ps)
 
 -- every record comes once, in chain order: from the start on stepping gives the records of the table and no other
 -- list, a record that a used block counts is among them once, and none is twice

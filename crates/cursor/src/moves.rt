@@ -1,46 +1,44 @@
 // Moves from block to block along the used chain, up to the next one that holds records.
-// The module is private: its functions are helpers of the cursor, which meets what they require.
-ghost use Rattle.std.specs.Prelude.{◌≡◌};
-ghost use Rattle.blocks.specs.Shape.{Sound};
+// The module is private: its functions are helpers of the cursor.
+ghost use Rattle.std.specs.Prelude.{◌≡◌, ◌<◌};
 ghost use Rattle.cursor.specs.Cursor.{first_from, in_reach};
 
-use crate::{Cursor, Step};
-use blocks::{Count, Shape};
+use crate::{Cursor, Refused, Step};
+use blocks::{BlockFile, Shape};
 use chain::next_of;
-use header::refusal;
+use header::Refusal;
 
-// Whether the file has the block, and so many moves are at most the number of its blocks less 1.
+// Whether the file has the block, and so many moves are at most the number of its blocks less 1. That number fits 16
+// bits, so the block's does, and so does one move more.
 pub fn in_reach(shape: Shape, block: usize, moves: u16) -> bool
-    ensures { result ≡ in_reach shape block moves }
+    ensures value { result ≡ in_reach shape block moves }
+    ensures fits { shape.blocks < 65536 }
 {
-    blocks::has_block(shape, block) & (moves < shape.blocks)
+    shape.has_block(block) & (moves < shape.blocks)
 }
 
 // The first record from a block on that is reached after so many moves, or the end at number 0. A refusal
 // hands `back` back.
-pub fn first_from(table: &[u8], shape: Shape, back: Cursor, moves: u16, first: usize) -> Step
-    requires { Sound table.now shape }
-    ensures { result ≡ first_from table.now shape back moves first }
+pub fn first_from(file: &BlockFile, back: Cursor, moves: u16, first: usize) -> Result<Step, Refused>
+    ensures { result ≡ first_from file.now.bytes.now file.now.shape back moves first }
 {
     let mut block = first;
     let mut made = moves;
     while block != 0 {
-        if !in_reach(shape, block, made) {
-            return Step::Refused(refusal::CHAIN_RULE, back);
+        if !in_reach(file.shape, block, made) {
+            return Err(back.refused(Refusal::ChainRule));
         }
-        let Count::Records(count) = blocks::count_in(table, shape, block) else {
-            return Step::Refused(refusal::WRONG_COUNT, back);
-        };
+        let count = file.count(block).ok_or(back.refused(Refusal::WrongCount))?;
         if count != 0 {
-            return Step::Record(Cursor {
+            return Ok(Step::Record(Cursor {
                 block: block as u16,
                 place: 0,
                 moves: made,
                 ended: false,
-            });
+            }));
         }
-        block = next_of(table, shape, block);
+        block = next_of(file.bytes, file.shape, block);
         made += 1;
     }
-    Step::End(Cursor::at_end())
+    Ok(Step::End(Cursor::at_end()))
 }

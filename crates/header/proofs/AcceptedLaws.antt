@@ -1,57 +1,60 @@
--- What reading a header answers, for the crates above: refused with a number only, or accepted with its bounds.
+-- What reading a header answers, for the crates above: a refusal only, or a header with its bounds.
 -- Assumes nothing.
 use Prim.Native.Nat.{ℕ, zero, suc, ◌+◌, ◌-◌, ◌*◌, ◌≤◌, ◌<◌}
 use mathlib.Core.Path.{◌≡◌, refl, sym, ◌∙◌, ap}
 use mathlib.Core.Bool.{Bool, true, false, cond, ◌&&◌}
-use mathlib.Core.List.{List, ◌∷◌}
+use mathlib.Core.List.{List, ◌++◌}
 use mathlib.Core.Logic.{◌⊎◌, inl, inr}
 use native.Mathlib.Nat.{not-suc-le-zero}
 use native.Mathlib.Omega.{arith}
 use lib.Dec.{leb}
 use lib.ListN.{length}
 use borrow.Author.Tests.{le-leb, lt-leb, leb-true, leb-false}
+use Rattle.std.specs.Prelude.{Option, Some, None, Result, Ok, Err}
 use Rattle.words.specs.Numbers.{byte}
-use Rattle.words.proofs.Cases.{compared}
-use Rattle.header.specs.Refusals.{one_of, header_refusals}
+use Rattle.words.proofs.Cases.{apart, compared}
+use Rattle.header.specs.Refusals.{Verdict, kept, answer_number, one_of, among, header_refusals}
 use Rattle.header.specs.Stored.{stored_of, area_at, names_at}
 use Rattle.header.specs.Fields.{code_at, width_at, kind_at, width_sum}
 use Rattle.header.specs.Header.{header_refusal}
-use Rattle.header.specs.Numbers.{numbers_with, numbers_in, numbers_of, field_with, field_of}
-use Rattle.header.specs.Answers.{unless_refused, header_first, refused_with, accepted_with, header_answer}
+use Rattle.header.specs.Numbers.{numbers_with, numbers_in, numbers_of, field_is, field_with, field_of}
+use Rattle.header.specs.Answers.{unless_refused, header_first, header_answer}
 use Rattle.header.specs.Rules.{Names, some, HeaderRules, Accepted, FieldBounds}
 use Rattle.header.specs.declared.Header.{Header}
-use Rattle.header.specs.declared.HeaderAnswer.{HeaderAnswer}
+use Rattle.header.specs.declared.refusal.Refusal.{Refusal}
 use Rattle.header.specs.declared.kind.FieldKind.{FieldKind}
-use Rattle.header.specs.declared.kind.StoredKind.{StoredKind}
-use Rattle.header.specs.declared.kind.StoredKind.TheVariants.{Kind, Unknown}
-use Rattle.header.specs.declared.field.Field.TheVariants.{Is, Missing}
+use Rattle.header.specs.declared.field.Field.{Field}
 use Rattle.header.proofs.KindLaws.{kind_width, known_width, pair_known}
 use Rattle.header.proofs.FieldLaws.{offset_at, offsets_length}
-use Rattle.header.proofs.VerdictLaws.{unless_kept, unless_refused_lem}
-use Rattle.header.proofs.RefusalLaws.{one_of_rest, unless_holds, header_refusals_lem}
-use Rattle.header.proofs.RuleLaws.{verdict_gives, verdict_takes}
+use Rattle.header.proofs.VerdictLaws.{unless_kept, unless_refused_lem, unless_ok}
+use Rattle.header.proofs.RefusalLaws.{among_is, unless_holds, unless_among, header_refusals_lem}
+use Rattle.header.proofs.RuleLaws.{names_take, verdict_gives, verdict_takes}
 
 -- ---- the verdict
 
 -- demand 2 for the header: accepted exactly when it meets rules 1 to 7
-pub accepted_gives : (t : List ℕ) → header_refusal t ≡ 0 → HeaderRules t (length t)
+pub accepted_gives : (t : List ℕ) → header_refusal t ≡ kept → HeaderRules t (length t)
 accepted_gives t e = verdict_gives t (length t) e
 
-pub accepted_takes : (t : List ℕ) → HeaderRules t (length t) → header_refusal t ≡ 0
+pub accepted_takes : (t : List ℕ) → HeaderRules t (length t) → header_refusal t ≡ kept
 accepted_takes t r = verdict_takes t (length t) r
 
--- the answer's number is the verdict's, and a refusal carries that number only
-pub refusal_is : (t : List ℕ) → (header_answer t).refusal ≡ header_refusal t
-unfolding header_answer header_first unless_refused accepted_with refused_with
+-- the answer is a header where the rules are kept, and their refusal where one is broken
+pub kept_only : (t : List ℕ) → header_refusal t ≡ kept → header_answer t ≡ Ok (numbers_of t)
+unfolding header_answer header_first
+kept_only t e = unless_kept (header_refusal t) Err (Ok (numbers_of t)) e
+
+pub refused_only : (t : List ℕ) {r : Refusal} → header_refusal t ≡ Err r → header_answer t ≡ Err r
+unfolding header_answer header_first
+refused_only t e = unless_refused_lem (header_refusal t) Err (Ok (numbers_of t)) e
+
+pub refusal_is : (t : List ℕ) → answer_number (header_answer t) ≡ answer_number (header_refusal t)
+unfolding header_answer header_first unless_refused answer_number
 refusal_is t = go (header_refusal t)
   where
-    go : (n : ℕ) → (unless_refused n refused_with (accepted_with (numbers_of t))).refusal ≡ n
-    go zero = refl
-    go (suc n) = refl
-
-pub refused_only : (t : List ℕ) → (header_refusal t ≡ 0 → ⊥) → header_answer t ≡ refused_with (header_refusal t)
-unfolding header_answer header_first
-refused_only t h = unless_refused_lem (header_refusal t) refused_with (accepted_with (numbers_of t)) h
+    go : (v : Verdict) → answer_number (unless_refused v Err (Ok (numbers_of t))) ≡ answer_number v
+    go (Ok none) = refl
+    go (Err r) = refl
 
 -- ---- widths
 
@@ -79,7 +82,7 @@ names_inside t end (suc n) at l (some name inside rest) = omega arith
 
 -- ---- an accepted header
 
-module _ (t : List ℕ) (e : header_refusal t ≡ 0) where
+module _ (t : List ℕ) (e : header_refusal t ≡ kept) where
   pub accepted : Accepted t (numbers_of t)
   unfolding numbers_of numbers_in numbers_with
   accepted =
@@ -88,7 +91,7 @@ module _ (t : List ℕ) (e : header_refusal t ≡ 0) where
       let r = accepted_gives t e in
       let l = r.limits in
       let f = r.fields in
-      let known : (i : ℕ) → i < s.fields → kind_at t area i ≡ Unknown → ⊥ =
+      let known : (i : ℕ) → i < s.fields → kind_at t area i ≡ None → ⊥ =
       λ i k. let (kind, good) = f.pairs i k in pair_known (code_at t area i) (width_at t area i) kind good in
       let wide : (i : ℕ) → i < s.fields → 1 ≤ width_at t area i =
       λ i k. known_width (code_at t area i) (width_at t area i) (known i k) in
@@ -116,83 +119,93 @@ module _ (t : List ℕ) (e : header_refusal t ≡ 0) where
         key_most = omega (arith, most, f.widths);
         key_least = λ k. sum_some t area s.key_fields k (λ i j. wide i (omega (arith, l.keys_most)));
         pairs = known;
-        named = f.names;
+        named = names_take t s.header_size s.fields (names_at s) f.names;
       }
 
 -- ---- a header that was read: what its answer r says, without a word on the rules
 
-module _ (t : List ℕ) (r : HeaderAnswer) (read : r ≡ header_answer t) where
-  number : r.refusal ≡ header_refusal t
-  number = ap (λ (a : HeaderAnswer). a.refusal) read ∙ refusal_is t
-
-  kept : r.refusal ≡ 0 → header_refusal t ≡ 0
-  kept e = sym number ∙ e
-
-  -- where its number is 0, it is that and the header's numbers, with their bounds; else a refusal's number and no other
-  pub read_kept : r.refusal ≡ 0 → r ≡ accepted_with (numbers_of t)
+module _ (t : List ℕ) (r : Result Header Refusal) (read : r ≡ header_answer t) where
+  -- where it is a header, the rules are kept and it is the header's numbers, with their bounds
+  both : {h : Header} → r ≡ Ok h
+      → (header_refusal t ≡ kept) × ◌≡◌ {A = Result Header Refusal} (Ok (numbers_of t)) (Ok h)
   unfolding header_answer header_first
-  read_kept e = read ∙ unless_kept (header_refusal t) refused_with (accepted_with (numbers_of t)) (kept e)
+  both e = unless_ok (header_refusal t) (Ok (numbers_of t)) (sym read ∙ e)
 
-  pub read_refused : (r.refusal ≡ 0 → ⊥) → r ≡ refused_with r.refusal
-  read_refused h = read ∙ refused_only t (λ z. h (number ∙ z)) ∙ ap refused_with (sym number)
+  pub read_kept : {h : Header} → r ≡ Ok h → header_refusal t ≡ kept
+  read_kept e = (both e).0
 
-  pub read_numbers : r.refusal ≡ 0 → r.header ≡ numbers_of t
-  unfolding accepted_with
-  read_numbers e = ap (λ (a : HeaderAnswer). a.header) (read_kept e)
+  -- where it is a refusal, that is the first broken rule's
+  pub read_refused : {x : Refusal} → r ≡ Err x → header_refusal t ≡ Err x
+  unfolding header_answer header_first unless_refused
+  read_refused {x = x} e = go (header_refusal t) (sym read ∙ e)
+    where
+      go : (v : Verdict) → unless_refused v Err (Ok (numbers_of t)) ≡ Err x → v ≡ Err x
+      go (Ok none) f = apart cc
+      go (Err y) f = cc
 
-  pub numbers_accepted : r.refusal ≡ 0 → Accepted t (numbers_of t)
-  numbers_accepted e = accepted t (kept e)
+  pub read_numbers : {h : Header} → r ≡ Ok h → h ≡ numbers_of t
+  read_numbers e = let f = (both e).1 in cc
 
-  pub read_accepted : r.refusal ≡ 0 → Accepted t r.header
+  pub numbers_accepted : {h : Header} → r ≡ Ok h → Accepted t (numbers_of t)
+  numbers_accepted e = accepted t (read_kept e)
+
+  pub read_accepted : {h : Header} → r ≡ Ok h → Accepted t h
   read_accepted e = rw (read_numbers e) (numbers_accepted e)
 
-  -- an answer that has the rules first is refused with its number, or what comes after them
-  module _ {A : Type 0} (refused : ℕ → A) (others : A) where
-    pub first_kept : r.refusal ≡ 0 → header_first t refused others ≡ others
+  -- an answer that has the rules first is refused with their refusal, or what comes after them
+  module _ {A : Type 0} (refused : Refusal → A) (others : A) where
+    pub first_kept : {h : Header} → r ≡ Ok h → header_first t refused others ≡ others
     unfolding header_first
-    first_kept e = unless_kept (header_refusal t) refused others (kept e)
+    first_kept e = unless_kept (header_refusal t) refused others (read_kept e)
 
-    pub first_refused : (r.refusal ≡ 0 → ⊥) → header_first t refused others ≡ refused r.refusal
+    pub first_refused : {x : Refusal} → r ≡ Err x → header_first t refused others ≡ refused x
     unfolding header_first
-    first_refused h =
-        unless_refused_lem (header_refusal t) refused others (λ z. h (number ∙ z)) ∙ ap refused (sym number)
+    first_refused e = unless_refused_lem (header_refusal t) refused others (read_refused e)
 
 -- what each of their refusals has, and what comes after the rules where they are kept, every answer has that has the
 -- rules first
-pub first_holds : {A : Type 0} (t : List ℕ) (refused : ℕ → A) (others : A) (Holds : A → Type 0) →
-    ((n : ℕ) → one_of header_refusals n ≡ true → Holds (refused n)) → (Accepted t (numbers_of t) → Holds others)
+pub first_holds : {A : Type 0} (t : List ℕ) (refused : Refusal → A) (others : A) (Holds : A → Type 0) →
+    ((r : Refusal) → one_of header_refusals r ≡ true → Holds (refused r)) → (Accepted t (numbers_of t) → Holds others)
     → Holds (header_first t refused others)
 unfolding header_first
-first_holds t refused others Holds refusals kept =
+first_holds t refused others Holds refusals whole =
     unless_holds header_refusals (header_refusal t) refused others Holds (header_refusals_lem t) refusals
-    (λ e. kept (accepted t e))
+    (λ e. whole (accepted t e))
+
+-- so its refusals are theirs and those of what comes after them
+pub first_among : {A : Type 0} (t : List ℕ) (own : List Refusal) (others : Result A Refusal) →
+    (Accepted t (numbers_of t) → among own others ≡ true)
+    → among (header_refusals ++ own) (header_first t Err others) ≡ true
+unfolding header_first
+first_among t own others after =
+    unless_among header_refusals own (header_refusal t) others (header_refusals_lem t) (λ e. after (accepted t e))
 
 -- an answer that is none of their refusals is what comes after the rules, and they are kept
-pub first_only : {A : Type 0} (t : List ℕ) (refused : ℕ → A) (others answer : A) →
-    ((n : ℕ) → one_of header_refusals n ≡ true → refused n ≡ answer → ⊥) → header_first t refused others ≡ answer
-    → (header_refusal t ≡ 0) × (others ≡ answer)
+pub first_only : {A : Type 0} (t : List ℕ) (refused : Refusal → A) (others answer : A) →
+    ((r : Refusal) → one_of header_refusals r ≡ true → refused r ≡ answer → ⊥) → header_first t refused others ≡ answer
+    → (header_refusal t ≡ kept) × (others ≡ answer)
 unfolding header_first unless_refused
-first_only t refused others answer apart = go (header_refusal t) refl (header_refusals_lem t)
+first_only t refused others answer none_of = go (header_refusal t) refl (header_refusals_lem t)
   where
-    go : (n : ℕ) → header_refusal t ≡ n → one_of (0 ∷ header_refusals) n ≡ true → unless_refused n refused others ≡ answer
-        → (header_refusal t ≡ 0) × (others ≡ answer)
-    go zero e w a = (e, a)
-    go (suc n) e w a = absurd (apart (suc n) (one_of_rest (suc n) 0 header_refusals (λ z. omega arith) w) a)
+    go : (v : Verdict) → header_refusal t ≡ v → among header_refusals v ≡ true
+        → unless_refused v refused others ≡ answer → (header_refusal t ≡ kept) × (others ≡ answer)
+    go (Ok none) e w a = (e, a)
+    go (Err r) e w a = absurd (none_of r (among_is header_refusals (Err r) w refl) a)
 
 -- ---- a field
 
 module _ (t : List ℕ) (h : Header) (f : ℕ) where
-  pub field_low : f < 1 → field_of t h f ≡ Missing
+  pub field_low : f < 1 → field_of t h f ≡ None
   unfolding field_of
   field_low l = rw (lt-leb 1 f l)
 
-  pub field_high : h.fields < f → field_of t h f ≡ Missing
+  pub field_high : h.fields < f → field_of t h f ≡ None
   unfolding field_of
   field_high l = go (leb 1 f)
     where
       go : (b : Bool) → cond (b && leb f h.fields)
           (field_with (kind_at t h.area (f - 1)) (width_at t h.area (f - 1)) (width_sum t h.area (f - 1)))
-          Missing ≡ Missing
+          None ≡ None
       go true = rw (lt-leb f h.fields l)
       go false = refl
 
@@ -203,22 +216,29 @@ module _ (t : List ℕ) (h : Header) (f : ℕ) where
   field_here l m = rw (le-leb 1 f l, le-leb f h.fields m)
 
 -- which of its fields a field is
-field_parts : (k : StoredKind) (w o : ℕ) (kind : FieldKind) (width offset : ℕ) →
-    field_with k w o ≡ Is kind width offset → (k ≡ Kind kind) × (w ≡ width) × (o ≡ offset)
+pub field_is_same : (k kind : FieldKind) (w width o offset : ℕ) → field_is k w o ≡ field_is kind width offset →
+    (k ≡ kind) × (w ≡ width) × (o ≡ offset)
+field_is_same k kind w width o offset e =
+    let d : ◌≡◌ {A = Field} (record { kind = k; width = w; offset = o })
+    (record { kind = kind; width = width; offset = offset }) = cc in
+    (ap (λ (x : Field). x.kind) d, ap (λ (x : Field). x.width) d, ap (λ (x : Field). x.offset) d)
+
+field_parts : (k : Option FieldKind) (w o : ℕ) (kind : FieldKind) (width offset : ℕ) →
+    field_with k w o ≡ field_is kind width offset → (k ≡ Some kind) × (w ≡ width) × (o ≡ offset)
 unfolding field_with
-field_parts (Kind k) w o kind width offset e = (cc, cc, cc)
-field_parts Unknown w o kind width offset e = let z : ◌≡◌ {A = ℕ} 0 1 = cc in absurd (omega arith)
+field_parts (Some k) w o kind width offset e =
+    let p = field_is_same k kind w width o offset e in (ap Some p.0, p.1, p.2)
+field_parts None w o kind width offset e = apart cc
 
 module _ (t : List ℕ) (h : Header) (a : Accepted t h) (f : ℕ) where
-  pub field_bounds : (kind : FieldKind) (width offset : ℕ) → field_of t h f ≡ Is kind width offset →
+  pub field_bounds : (kind : FieldKind) (width offset : ℕ) → field_of t h f ≡ field_is kind width offset →
       FieldBounds t h f kind width offset
   unfolding width_sum
   field_bounds kind width offset e = go (leb 1 f) refl (leb f h.fields) refl
     where
       go : (p : Bool) → leb 1 f ≡ p → (q : Bool) → leb f h.fields ≡ q → FieldBounds t h f kind width offset
-      go false u q v = let z : ◌≡◌ {A = ℕ} 0 1 = cc (field_low t h f (leb-false 1 f u)) in absurd (omega arith)
-      go true u false v =
-          let z : ◌≡◌ {A = ℕ} 0 1 = cc (field_high t h f (leb-false f h.fields v)) in absurd (omega arith)
+      go false u q v = apart (cc (field_low t h f (leb-false 1 f u)))
+      go true u false v = apart (cc (field_high t h f (leb-false f h.fields v)))
       go true u true v =
           let low = leb-true 1 f u in
           let high = leb-true f h.fields v in
@@ -236,20 +256,20 @@ module _ (t : List ℕ) (h : Header) (a : Accepted t h) (f : ℕ) where
           }
 
   -- a number from 1 to fields names a field
-  pub field_there : 1 ≤ f → f ≤ h.fields → field_of t h f ≡ Missing → ⊥
+  pub field_there : 1 ≤ f → f ≤ h.fields → field_of t h f ≡ None → ⊥
   unfolding field_with
   field_there l m e = go (kind_at t h.area (f - 1)) refl
     where
-      go : (k : StoredKind) → kind_at t h.area (f - 1) ≡ k → ⊥
-      go Unknown g = a.pairs (f - 1) (omega arith) g
-      go (Kind kind) g = let z : ◌≡◌ {A = ℕ} 0 1 = cc (field_here t h f l m) in omega arith
+      go : (k : Option FieldKind) → kind_at t h.area (f - 1) ≡ k → ⊥
+      go None g = a.pairs (f - 1) (omega arith) g
+      go (Some kind) g = apart (cc (field_here t h f l m))
 
 -- ---- two fields of one record, and the key
 
 module _ (t : List ℕ) (h : Header) (a : Accepted t h) (f : ℕ) (kind : FieldKind) (width offset : ℕ)
-    (d : field_of t h f ≡ Is kind width offset) where
+    (d : field_of t h f ≡ field_is kind width offset) where
   -- a field ends where the fields behind it begin, or before
-  pub fields_behind : (g : ℕ) (other : FieldKind) (wide at : ℕ) → field_of t h g ≡ Is other wide at → f < g
+  pub fields_behind : (g : ℕ) (other : FieldKind) (wide at : ℕ) → field_of t h g ≡ field_is other wide at → f < g
       → offset + width ≤ at
   unfolding width_sum
   fields_behind g other wide at e l =
@@ -273,8 +293,8 @@ module _ (t : List ℕ) (h : Header) (a : Accepted t h) (f : ℕ) (kind : FieldK
 
 -- two fields don't overlap
 module _ (t : List ℕ) (h : Header) (a : Accepted t h) where
-  pub fields_apart : (f : ℕ) (kind : FieldKind) (width offset : ℕ) → field_of t h f ≡ Is kind width offset
-      → (g : ℕ) (other : FieldKind) (wide at : ℕ) → field_of t h g ≡ Is other wide at → (f ≡ g → ⊥)
+  pub fields_apart : (f : ℕ) (kind : FieldKind) (width offset : ℕ) → field_of t h f ≡ field_is kind width offset
+      → (g : ℕ) (other : FieldKind) (wide at : ℕ) → field_of t h g ≡ field_is other wide at → (f ≡ g → ⊥)
       → (offset + width ≤ at) ⊎ (at + wide ≤ offset)
   fields_apart f kind width offset d g other wide at e different =
       compared f g

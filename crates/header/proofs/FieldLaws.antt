@@ -18,11 +18,9 @@ use Rattle.header.specs.Stored.{area_at}
 use Rattle.header.specs.Fields.{allowed, width_at, pair_right, width_sum, offsets_of}
 use Rattle.header.specs.Steps.{judged_if}
 use Rattle.header.specs.declared.kind.FieldKind.{FieldKind}
-use Rattle.header.specs.declared.kind.StoredKind.{StoredKind}
-use Rattle.header.specs.declared.kind.StoredKind.TheVariants.{Kind, Unknown}
-use Rattle.header.specs.declared.judged.Judged.TheVariants.{Good, Bad}
+use Rattle.std.specs.Prelude.{Option, Some, None}
 use Rattle.header.specs.Header.{most_fields}
-use Rattle.header.proofs.JudgedLaws.{judged_good, judged_bad}
+use Rattle.header.proofs.JudgedLaws.{judged_some, judged_none}
 
 -- the field area begins at 58 or 78
 pub area_most : (version : ℕ) → area_at version ≤ 0x78
@@ -34,11 +32,11 @@ area_most version = go (leb version 0x04)
 
 -- ---- a pair
 
-pub width_unknown : (keyed : Bool) (k : StoredKind) (w : ℕ) → k ≡ Unknown → judged_if (allowed keyed k) w ≡ Bad
+pub width_unknown : (keyed : Bool) (k : Option FieldKind) (w : ℕ) → k ≡ None → judged_if (allowed keyed k) w ≡ None
 unfolding judged_if allowed
 width_unknown keyed k w e = rw e
 
-pub width_known : (keyed : Bool) (k : StoredKind) (kind : FieldKind) (w : ℕ) (t : Bool) → k ≡ Kind kind →
+pub width_known : (keyed : Bool) (k : Option FieldKind) (kind : FieldKind) (w : ℕ) (t : Bool) → k ≡ Some kind →
     (keyed && is_blob kind) ≡ t → judged_if (allowed keyed k) w ≡ judged_if (not t) w
 unfolding allowed
 width_known keyed k kind w t e f = rw (e, f)
@@ -68,39 +66,42 @@ offsets_length t area (suc n) =
 -- the pass over the pairs after f of them
 abbrev pub Added : List ℕ → ℕ → ℕ → ℕ → List ℕ → ℕ → ℕ → Type 0
 Added t area keys n offsets sum f =
-    (f ≤ n) × (sum ≡ width_sum t area f) × (each (pair_right t area keys) f ≡ true) × (offsets ≡ offsets_of t area f)
+    (sum ≡ width_sum t area f) × (each (pair_right t area keys) f ≡ true) × (offsets ≡ offsets_of t area f)
 
 pub added_none : (t : List ℕ) (area keys n : ℕ) (offsets : List ℕ) → offsets ≡ replicate 256 0 →
     Added t area keys n offsets 0 0
 unfolding width_sum each offsets_of
-added_none t area keys n offsets e = (omega arith, refl, refl, e)
+added_none t area keys n offsets e = (refl, refl, e)
 
 module _ (t : List ℕ) (area keys n : ℕ) (offsets : List ℕ) (sum f : ℕ) (p : Added t area keys n offsets sum f)
     (l : f < n) where
-  pub added_more : (width : ℕ) → judged_if (pair_right t area keys f) (width_at t area f) ≡ Good width →
+  pub added_more : (width : ℕ) → judged_if (pair_right t area keys f) (width_at t area f) ≡ Some width →
       Added t area keys n (set offsets (f + 1) (sum + width)) (sum + width) (f + 1)
   added_more width e =
-      let q = judged_good (pair_right t area keys f) (width_at t area f) width e in
-      let s : sum + width ≡ width_sum t area (f + 1) = rw (p.1, q.1) (sym (sum_more t area f)) in
-      (omega arith, s, each_more (pair_right t area keys) f p.2 q.0, rw (p.3, s) (offsets_more t area f))
+      let q = judged_some (pair_right t area keys f) (width_at t area f) width e in
+      let s : sum + width ≡ width_sum t area (f + 1) = rw (p.0, q.1) (sym (sum_more t area f)) in
+      (s, each_more (pair_right t area keys) f p.1 q.0, rw (p.2, s) (offsets_more t area f))
 
-  pub added_broken : judged_if (pair_right t area keys f) (width_at t area f) ≡ Bad →
+  pub added_broken : judged_if (pair_right t area keys f) (width_at t area f) ≡ None →
       each (pair_right t area keys) n ≡ false
-  added_broken e = each_fails (pair_right t area keys) n f l (judged_bad (pair_right t area keys f) (width_at t area f) e)
+  added_broken e =
+      each_fails (pair_right t area keys) n f l (judged_none (pair_right t area keys f) (width_at t area f) e)
 
   -- a width is a byte
-  pub added_byte : Bytes t → (width : ℕ) → judged_if (pair_right t area keys f) (width_at t area f) ≡ Good width →
+  pub added_byte : Bytes t → (width : ℕ) → judged_if (pair_right t area keys f) (width_at t area f) ≡ Some width →
       width < 256
-  added_byte h width e = rw (judged_good (pair_right t area keys f) (width_at t area f) width e).1 (h (area + 2 * f + 1))
+  added_byte h width e =
+      rw (judged_some (pair_right t area keys f) (width_at t area f) width e).1 (h (area + 2 * f + 1))
 
   -- the sum fits a word
   pub added_small : Bytes t → n ≤ most_fields → (width : ℕ) → width < 256 → sum + width < 65536
-  added_small h m width w = omega (arith, p.1, sum_small t area f h)
+  added_small h m width w = omega (arith, p.0, sum_small t area f h)
 
 -- ---- offsets found
 
 -- place i of the offsets of n fields is the widths of the first i fields added up
-pub offset_at : (t : List ℕ) (area n i : ℕ) → n ≤ most_fields → i ≤ n → get_or (offsets_of t area n) i 0 ≡ width_sum t area i
+pub offset_at : (t : List ℕ) (area n i : ℕ) → n ≤ most_fields → i ≤ n →
+    get_or (offsets_of t area n) i 0 ≡ width_sum t area i
 unfolding offsets_of width_sum
 offset_at t area zero i m l = let e : i ≡ 0 = omega arith in rw e
 offset_at t area (suc n) i m l = ⊎_elim here (before (λ k. offset_at t area n i (omega arith) k)) (eq-or-lt_of_le l)
@@ -113,4 +114,5 @@ offset_at t area (suc n) i m l = ⊎_elim here (before (λ k. offset_at t area n
     before : (i ≤ n → get_or (offsets_of t area n) i 0 ≡ width_sum t area i) → i < suc n →
         get_or (offsets_of t area (suc n)) i 0 ≡ width_sum t area i
     before ih k =
-        get_or-set_other (offsets_of t area n) (suc n) i (width_sum t area (suc n)) 0 (λ e. omega arith) ∙ ih (omega arith)
+        get_or-set_other (offsets_of t area n) (suc n) i (width_sum t area (suc n)) 0 (λ e. omega arith)
+        ∙ ih (omega arith)

@@ -2,16 +2,16 @@
 use Prim.Native.Nat.{ℕ}
 use mathlib.Core.Path.{◌≡◌, refl}
 use mathlib.Core.Bool.{Bool, true, false}
-use native.Mathlib.Omega.{arith}
+use Rattle.std.specs.Prelude.{Some, None}
+use Rattle.std.proofs.lemmas.Option.{none-some, same_Some}
 use Rattle.header.specs.Steps.{judged_if}
-use Rattle.header.specs.declared.judged.Judged.TheVariants.{Good, Bad}
 
-pub judged_good : (right : Bool) (n found : ℕ) → judged_if right n ≡ Good found → (right ≡ true) × (found ≡ n)
+pub judged_some : (right : Bool) (n found : ℕ) → judged_if right n ≡ Some found → (right ≡ true) × (found ≡ n)
 unfolding judged_if
-judged_good true n found e = (refl, cc)
-judged_good false n found e = let z : ◌≡◌ {A = ℕ} 0 1 = cc in absurd (omega arith)
+judged_some true n found e = (refl, same_Some found n (cc))
+judged_some false n found e = absurd (none-some found e)
 
-pub judged_bad : (right : Bool) (n : ℕ) → judged_if right n ≡ Bad → right ≡ false
+pub judged_none : (right : Bool) (n : ℕ) → judged_if right n ≡ None → right ≡ false
 unfolding judged_if
-judged_bad false n e = refl
-judged_bad true n e = let z : ◌≡◌ {A = ℕ} 0 1 = cc in absurd (omega arith)
+judged_none false n e = refl
+judged_none true n e = absurd (none-some n cc)

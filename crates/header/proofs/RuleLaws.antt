@@ -1,4 +1,4 @@
--- The rules as tests are the rules as propositions: the verdict is 0 exactly when HeaderRules holds. Assumes nothing.
+-- The rules as tests are the rules as propositions: they are kept exactly when HeaderRules holds. Assumes nothing.
 use Prim.Native.Nat.{ℕ, zero, suc, ◌+◌, ◌*◌, ◌≤◌, ◌<◌}
 use mathlib.Core.Path.{◌≡◌, refl, ap}
 use mathlib.Core.Bool.{Bool, true, false, cond, not, ◌&&◌, ◌||◌, and-eq-true_iff, false≢true}
@@ -8,12 +8,14 @@ use native.Mathlib.Omega.{arith}
 use lib.Dec.{eqb, leb, ltb}
 use borrow.Author.Tests.{eq-eqb, ne_eqb, eqb-true, eqb-false, le-leb, lt-leb, leb-true, leb-false, lt-ltb, ltb-true}
 use borrow.Author.Tests.{not-true}
+use Rattle.std.specs.Prelude.{Option, Some, None}
 use Rattle.words.specs.Each.{each}
 use Rattle.words.specs.Numbers.{byte}
 use Rattle.words.proofs.Conjunctions.{both, join}
 use Rattle.words.proofs.EachLaws.{each_gives, each_takes}
 use Rattle.words.proofs.ZeroLaws.{before_nonzero, before_zero_lem, before_is}
 use Rattle.header.specs.Kinds.{is_blob}
+use Rattle.header.specs.Refusals.{kept}
 use Rattle.header.specs.Stored.{stored_of, block_size, encryption_at, area_at, names_at}
 use Rattle.header.specs.Fields.{code_at, width_at, allowed, kind_at, pair_right, width_sum, name_length, name_fits}
 use Rattle.header.specs.Fields.{names_fit, fields_right}
@@ -27,8 +29,8 @@ use Rattle.header.proofs.VerdictLaws.{kept_of}
 use Rattle.header.specs.declared.stored.Stored.{Stored}
 use Rattle.header.specs.declared.kind.FieldKind.{FieldKind}
 use Rattle.header.specs.declared.kind.FieldKind.TheVariants.{Text, Date, Short, Long, Number, Logical, Blob}
-use Rattle.header.specs.declared.kind.StoredKind.{StoredKind}
-use Rattle.header.specs.declared.kind.StoredKind.TheVariants.{Kind, Unknown}
+use Rattle.header.specs.declared.refusal.Refusal.TheVariants.{TooShort, NotATable, UnknownVersion, Encrypted}
+use Rattle.header.specs.declared.refusal.Refusal.TheVariants.{HeaderLimit, WrongLength, FieldRule}
 
 -- ---- 4
 
@@ -123,12 +125,12 @@ limits_take s l =
 
 -- ---- 7: pairs
 
-allowed_kind : (keyed : Bool) (k : StoredKind) → allowed keyed k ≡ true → (kind : FieldKind) × (k ≡ Kind kind)
+allowed_kind : (keyed : Bool) (k : Option FieldKind) → allowed keyed k ≡ true → (kind : FieldKind) × (k ≡ Some kind)
 unfolding allowed
-allowed_kind keyed (Kind kind) e = (kind, refl)
-allowed_kind keyed Unknown e = absurd (false≢true e)
+allowed_kind keyed (Some kind) e = (kind, refl)
+allowed_kind keyed None e = absurd (false≢true e)
 
-allowed_blob : (k : StoredKind) → allowed true k ≡ true → k ≡ Kind Blob → ⊥
+allowed_blob : (k : Option FieldKind) → allowed true k ≡ true → k ≡ Some Blob → ⊥
 unfolding allowed is_blob
 allowed_blob k e f = false≢true (rw f at e)
 
@@ -143,22 +145,23 @@ not_blob Number h = refl
 not_blob Logical h = refl
 not_blob Blob h = absurd (h refl)
 
-allowed_takes : (keyed : Bool) (k : StoredKind) → (k ≡ Unknown → ⊥) → (keyed ≡ true → k ≡ Kind Blob → ⊥) →
+allowed_takes : (keyed : Bool) (k : Option FieldKind) → (k ≡ None → ⊥) → (keyed ≡ true → k ≡ Some Blob → ⊥) →
     allowed keyed k ≡ true
 unfolding allowed
-allowed_takes keyed Unknown h g = absurd (h refl)
-allowed_takes false (Kind kind) h g = refl
-allowed_takes true (Kind kind) h g = rw (not_blob kind (λ e. g refl (ap Kind e)))
+allowed_takes keyed None h g = absurd (h refl)
+allowed_takes false (Some kind) h g = refl
+allowed_takes true (Some kind) h g = rw (not_blob kind (λ e. g refl (ap Some e)))
 
 -- ---- 7: names
 
-names_give : (t : List ℕ) (end n at : ℕ) → names_fit t end n at ≡ true → Names t end n at
+pub names_give : (t : List ℕ) (end n at : ℕ) → names_fit t end n at ≡ true → Names t end n at
 unfolding names_fit name_fits
 names_give t end zero at e = none
 names_give t end (suc n) at e =
     let p = (and-eq-true_iff (leb 1 (name_length t at) && leb (name_length t at) 25 && ltb (at + name_length t at) end)
     (names_fit t end n (at + name_length t at + 1))).0 e in
-    let q = (and-eq-true_iff (leb 1 (name_length t at) && leb (name_length t at) 25) (ltb (at + name_length t at) end)).0
+    let q =
+    (and-eq-true_iff (leb 1 (name_length t at) && leb (name_length t at) 25) (ltb (at + name_length t at) end)).0
     p.0 in
     let r = (and-eq-true_iff (leb 1 (name_length t at)) (leb (name_length t at) 25)).0 q.0 in
     let most = leb-true (name_length t at) 25 r.1 in
@@ -220,17 +223,17 @@ fields_take t s r =
 
 -- ---- all seven
 
-pub verdict_gives : (t : List ℕ) (long : ℕ) → header_verdict t long ≡ 0 → HeaderRules t long
+pub verdict_gives : (t : List ℕ) (long : ℕ) → header_verdict t long ≡ kept → HeaderRules t long
 unfolding header_verdict limits_verdict fields_verdict long_enough known_version length_right is_table
 verdict_gives t long e =
     let s = stored_of t in
-    let p1 = kept_of (long_enough long) 0 _ e in
-    let p2 = kept_of (is_table s) 1 _ p1.1 in
-    let p3 = kept_of (known_version s.version) 2 _ p2.1 in
-    let p4 = kept_of (unencrypted t (encryption_at s.version)) 3 _ p3.1 in
-    let p5 = kept_of (limits_kept s) 4 _ p4.1 in
-    let p6 = kept_of (stored_length long s) 5 _ p5.1 in
-    let p7 = kept_of (fields_right t s) 6 0 p6.1 in
+    let p1 = kept_of (long_enough long) TooShort _ e in
+    let p2 = kept_of (is_table s) NotATable _ p1.1 in
+    let p3 = kept_of (known_version s.version) UnknownVersion _ p2.1 in
+    let p4 = kept_of (unencrypted t (encryption_at s.version)) Encrypted _ p3.1 in
+    let p5 = kept_of (limits_kept s) HeaderLimit _ p4.1 in
+    let p6 = kept_of (stored_length long s) WrongLength _ p5.1 in
+    let p7 = kept_of (fields_right t s) FieldRule kept p6.1 in
     let v = (and-eq-true_iff (leb least_version s.version) (leb s.version most_version)).0 p3.0 in
     let l = limits_give s p5.0 in
     record {
@@ -254,7 +257,7 @@ unfolding is_table
 is_table_lem s (inl e) = rw e
 is_table_lem s (inr e) = rw e
 
-pub verdict_takes : (t : List ℕ) (long : ℕ) → HeaderRules t long → header_verdict t long ≡ 0
+pub verdict_takes : (t : List ℕ) (long : ℕ) → HeaderRules t long → header_verdict t long ≡ kept
 unfolding header_verdict limits_verdict fields_verdict long_enough known_version length_right
 verdict_takes t long r =
     let s = stored_of t in

@@ -8,19 +8,19 @@ use native.Mathlib.Omega.{arith}
 use lib.Dec.{leb}
 use lib.ListN.{length}
 use borrow.Author.Tests.{leb-true}
+use Rattle.std.specs.Prelude.{Ok, None}
 use Rattle.words.specs.Numbers.{byte, little}
 use Rattle.words.proofs.Conjunctions.{both}
 use Rattle.words.proofs.NumberLaws.{little_same}
+use Rattle.header.specs.Refusals.{kept}
 use Rattle.header.specs.Stored.{stored_of, encryption_at, area_at, names_at}
 use Rattle.header.specs.Fields.{width_at, kind_at, width_sum, offsets_of}
 use Rattle.header.specs.Header.{header_refusal}
 use Rattle.header.specs.Numbers.{numbers_with, numbers_in, numbers_of, field_with, field_of}
-use Rattle.header.specs.Answers.{header_first, header_answer, refused_with, accepted_with}
+use Rattle.header.specs.Answers.{header_answer}
 use Rattle.header.specs.Rules.{NameAt, Names, none, some, FieldRules, HeaderRules, Accepted}
 use Rattle.header.specs.declared.Header.{Header}
-use Rattle.header.specs.declared.field.Field.TheVariants.{Missing}
-use Rattle.header.proofs.VerdictLaws.{unless_kept}
-use Rattle.header.proofs.AcceptedLaws.{accepted, accepted_gives, accepted_takes}
+use Rattle.header.proofs.AcceptedLaws.{accepted, accepted_gives, accepted_takes, kept_only}
 
 -- the encryption bytes are among the first 120
 encryption_most : (version : ℕ) → encryption_at version ≤ 0x5C
@@ -90,7 +90,7 @@ module _ (t u : List ℕ) (n : ℕ) (front : (i : ℕ) → i < n → byte u i �
 
 -- ---- a file that keeps rules 1 to 7, and another of its length with the same header
 
-module _ (t u : List ℕ) (e : header_refusal t ≡ 0) (long : length u ≡ length t)
+module _ (t u : List ℕ) (e : header_refusal t ≡ kept) (long : length u ≡ length t)
     (front : (i : ℕ) → i < (numbers_of t).header_size → byte u i ≡ byte t i) where
   abbrev h : Header
   h = numbers_of t
@@ -135,7 +135,7 @@ module _ (t u : List ℕ) (e : header_refusal t ≡ 0) (long : length u ≡ leng
         fields = rw stored fields;
       }
 
-  pub rules_kept : header_refusal u ≡ 0
+  pub rules_kept : header_refusal u ≡ kept
   rules_kept = accepted_takes u rules
 
   pub numbers_same : numbers_of u ≡ numbers_of t
@@ -157,9 +157,9 @@ module _ (t u : List ℕ) (e : header_refusal t ≡ 0) (long : length u ≡ leng
     where
       go : (b : Bool) → (leb 1 f && leb f h.fields) ≡ b →
           cond b (field_with (kind_at u h.area (f - 1)) (width_at u h.area (f - 1)) (width_sum u h.area (f - 1)))
-          Missing
+          None
           ≡ cond b (field_with (kind_at t h.area (f - 1)) (width_at t h.area (f - 1)) (width_sum t h.area (f - 1)))
-          Missing
+          None
       go false k = refl
       go true k =
           let p = both {a = leb 1 f} {b = leb f h.fields} k in
@@ -175,8 +175,4 @@ module _ (t u : List ℕ) (e : header_refusal t ≡ 0) (long : length u ≡ leng
 
   -- what reading the header answers
   pub answer_same : header_answer u ≡ header_answer t
-  unfolding header_answer header_first
-  answer_same =
-      unless_kept (header_refusal u) refused_with (accepted_with (numbers_of u)) rules_kept
-      ∙ ap accepted_with numbers_same
-      ∙ sym (unless_kept (header_refusal t) refused_with (accepted_with (numbers_of t)) e)
+  answer_same = kept_only u rules_kept ∙ ap Ok numbers_same ∙ sym (kept_only t e)

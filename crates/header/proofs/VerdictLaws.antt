@@ -1,30 +1,34 @@
--- How a verdict's number enters an answer: refused with it, or, where it is 0, what comes after it. Assumes nothing.
-use Prim.Native.Nat.{ℕ, zero, suc}
+-- How a verdict enters an answer: refused with its refusal, or, where the rules are kept, what comes after them.
+-- Assumes nothing.
 use mathlib.Core.Path.{◌≡◌, refl}
 use mathlib.Core.Bool.{Bool, true, false, cond}
-use native.Mathlib.Omega.{arith}
+use Rattle.std.specs.Prelude.{Result, Ok, Err}
+use Rattle.words.proofs.Cases.{apart}
+use Rattle.header.specs.Refusals.{Verdict, kept}
 use Rattle.header.specs.Answers.{unless_refused}
+use Rattle.header.specs.declared.refusal.Refusal.{Refusal}
 
-module _ {A : Type 0} (n : ℕ) (refused : ℕ → A) (others : A) where
-  pub unless_kept : n ≡ 0 → unless_refused n refused others ≡ others
+module _ {A : Type 0} (v : Verdict) (refused : Refusal → A) (others : A) where
+  pub unless_kept : v ≡ kept → unless_refused v refused others ≡ others
   unfolding unless_refused
   unless_kept e = rw e
 
-  pub unless_refused_lem : (n ≡ 0 → ⊥) → unless_refused n refused others ≡ refused n
+  pub unless_refused_lem : {r : Refusal} → v ≡ Err r → unless_refused v refused others ≡ refused r
   unfolding unless_refused
-  unless_refused_lem h = go n h
-    where
-      go : (m : ℕ) → (m ≡ 0 → ⊥) → unless_refused m refused others ≡ refused m
-      go zero k = absurd (k refl)
-      go (suc m) k = refl
+  unless_refused_lem e = rw e
 
--- of two numbers, the first that is not 0: 0 where both are
-pub unless_zero : (n others : ℕ) → unless_refused n (λ (m : ℕ). m) others ≡ 0 → (n ≡ 0) × (others ≡ 0)
+-- of an answer by a verdict that is a result, the verdict is kept and the result is what comes after it
+pub unless_ok : {A : Type 0} (v : Verdict) (others : Result A Refusal) {a : A} → unless_refused v Err others ≡ Ok a →
+    (v ≡ kept) × (others ≡ Ok a)
 unfolding unless_refused
-unless_zero zero others e = (refl, e)
-unless_zero (suc n) others e = absurd (omega arith)
+unless_ok (Ok tt) others e = (refl, e)
+unless_ok (Err r) others e = apart cc
 
--- a rule that is kept leaves the answer to the rules after it; a broken one with a number above 0 gives that number
-pub kept_of : (b : Bool) (n rest : ℕ) → cond b rest (suc n) ≡ 0 → (b ≡ true) × (rest ≡ 0)
-kept_of true n rest e = (refl, e)
-kept_of false n rest e = absurd (let z : ◌≡◌ {A = ℕ} 0 1 = cc in omega arith)
+-- of two verdicts, the first that is not kept: kept where both are
+pub unless_zero : (v others : Verdict) → unless_refused v Err others ≡ kept → (v ≡ kept) × (others ≡ kept)
+unless_zero v others e = unless_ok v others e
+
+-- a rule that is kept leaves the answer to the rules after it; a broken one refuses
+pub kept_of : (b : Bool) (r : Refusal) (rest : Verdict) → cond b rest (Err r) ≡ kept → (b ≡ true) × (rest ≡ kept)
+kept_of true r rest e = (refl, e)
+kept_of false r rest e = apart cc

@@ -1,14 +1,14 @@
 -- Field rules (refusal 7): the pairs of code and width, their sum, and the names. Fields count from 0 here.
 -- Definitions only.
 use Rattle.std.specs.Prelude.{ℕ, zero, suc, ◌+◌, ◌*◌, Bool, true, false, not, ◌&&◌, List, eqb, leb, ltb, replicate, set}
+use Rattle.std.specs.Prelude.{Option, Some, None}
 use Rattle.words.specs.Each.{each}
 use Rattle.words.specs.Numbers.{byte}
 use Rattle.words.specs.Zeros.{before_zero}
 use Rattle.header.specs.Kinds.{kind_of, is_blob}
 use Rattle.header.specs.Stored.{area_at, names_at}
 use Rattle.header.specs.declared.stored.Stored.{Stored}
-use Rattle.header.specs.declared.kind.StoredKind.{StoredKind}
-use Rattle.header.specs.declared.kind.StoredKind.TheVariants.{Kind, Unknown}
+use Rattle.header.specs.declared.kind.FieldKind.{FieldKind}
 
 -- ---- pairs: a type byte and a width byte a field
 
@@ -21,13 +21,13 @@ abbrev pub width_at : List ℕ → ℕ → ℕ → ℕ
 width_at t area f = byte t (area + 2 * f + 1)
 
 -- the kind that is stored for field f of a field area
-abbrev pub kind_at : List ℕ → ℕ → ℕ → StoredKind
+abbrev pub kind_at : List ℕ → ℕ → ℕ → Option FieldKind
 kind_at t area f = kind_of (code_at t area f) (width_at t area f)
 
 -- whether a field may be of this kind: one that the table has, and no blob where it is a key field
-unfoldable pub allowed : Bool → StoredKind → Bool
-allowed keyed Unknown = false
-allowed keyed (Kind kind) = not (keyed && is_blob kind)
+unfoldable pub allowed : Bool → Option FieldKind → Bool
+allowed keyed None = false
+allowed keyed (Some kind) = not (keyed && is_blob kind)
 
 -- whether the pair of field f is right; the first `keys` fields are the key fields
 abbrev pub pair_right : List ℕ → ℕ → ℕ → ℕ → Bool

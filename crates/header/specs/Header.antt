@@ -1,8 +1,9 @@
 -- Table rules 1 to 7, and the verdict that tries them in this order. Definitions only.
 use Rattle.std.specs.Prelude.{ℕ, ◌+◌, ◌*◌, Bool, cond, not, ◌&&◌, ◌||◌, List, eqb, leb, length}
 use Rattle.words.specs.Zeros.{all_zero}
-use Rattle.header.specs.Refusals.{too_short, not_a_table, unknown_version, encrypted, header_limit}
-use Rattle.header.specs.Refusals.{wrong_length, field_rule, first_broken}
+use Rattle.header.specs.Refusals.{Verdict, kept, first_broken}
+use Rattle.header.specs.declared.refusal.Refusal.TheVariants.{TooShort, NotATable, UnknownVersion, Encrypted}
+use Rattle.header.specs.declared.refusal.Refusal.TheVariants.{HeaderLimit, WrongLength, FieldRule}
 use Rattle.header.specs.Stored.{stored_of, unit, block_size, encryption_at}
 use Rattle.header.specs.Fields.{fields_right}
 use Rattle.header.specs.declared.stored.Stored.{Stored}
@@ -83,31 +84,31 @@ length_right long header blocks units = eqb long (header + blocks * (units * uni
 
 -- 7: fields_right, of Fields
 
--- ---- the verdict, of a file by its front and its length: the first broken rule's number, or 0
+-- ---- the verdict, of a file by its front and its length: the first broken rule's refusal, or that all are kept
 
 -- 1 to 5; `others` is what the rules after them answer
-unfoldable pub limits_verdict : List ℕ → ℕ → ℕ → ℕ
+unfoldable pub limits_verdict : List ℕ → ℕ → Verdict → Verdict
 limits_verdict front long others =
-    first_broken (long_enough long) too_short
-    (first_broken (is_table (stored_of front)) not_a_table
-    (first_broken (known_version (stored_of front).version) unknown_version
-    (first_broken (unencrypted front (encryption_at (stored_of front).version)) encrypted
-    (first_broken (limits_kept (stored_of front)) header_limit others))))
+    first_broken (long_enough long) TooShort
+    (first_broken (is_table (stored_of front)) NotATable
+    (first_broken (known_version (stored_of front).version) UnknownVersion
+    (first_broken (unencrypted front (encryption_at (stored_of front).version)) Encrypted
+    (first_broken (limits_kept (stored_of front)) HeaderLimit others))))
 
 -- 6: the length of a file by its header's numbers
 abbrev pub stored_length : ℕ → Stored → Bool
 stored_length long s = length_right long s.header_size s.blocks s.units
 
 -- 6 and 7
-unfoldable pub fields_verdict : List ℕ → ℕ → ℕ
+unfoldable pub fields_verdict : List ℕ → ℕ → Verdict
 fields_verdict front long =
-    first_broken (stored_length long (stored_of front)) wrong_length
-    (first_broken (fields_right front (stored_of front)) field_rule 0)
+    first_broken (stored_length long (stored_of front)) WrongLength
+    (first_broken (fields_right front (stored_of front)) FieldRule kept)
 
 -- 1 to 7
-unfoldable pub header_verdict : List ℕ → ℕ → ℕ
+unfoldable pub header_verdict : List ℕ → ℕ → Verdict
 header_verdict front long = limits_verdict front long (fields_verdict front long)
 
 -- the verdict on a whole file
-abbrev pub header_refusal : List ℕ → ℕ
+abbrev pub header_refusal : List ℕ → Verdict
 header_refusal t = header_verdict t (length t)

@@ -1,9 +1,7 @@
 -- Field kinds: document 01's table of codes and permitted widths. Definitions only.
-use Rattle.std.specs.Prelude.{ℕ, ◌≤◌, ◌≡◌, Bool, true, false, cond, ◌&&◌, List, [], ◌∷◌, eqb, leb}
+use Rattle.std.specs.Prelude.{ℕ, ◌≤◌, ◌≡◌, Bool, true, false, cond, ◌&&◌, List, [], ◌∷◌, eqb, leb, Option, Some, None}
 use Rattle.header.specs.declared.kind.FieldKind.{FieldKind}
 use Rattle.header.specs.declared.kind.FieldKind.TheVariants.{Text, Date, Short, Long, Number, Logical, Blob}
-use Rattle.header.specs.declared.kind.StoredKind.{StoredKind}
-use Rattle.header.specs.declared.kind.StoredKind.TheVariants.{Kind, Unknown}
 
 -- a row of the table: a code, its kind, the least and the most width
 pub data Row : Type 0 where
@@ -28,17 +26,17 @@ kinds =
     ∷ []
 
 -- a kind, where the width is permitted
-unfoldable pub permit : FieldKind → ℕ → ℕ → ℕ → StoredKind
-permit kind width least most = cond (leb least width && leb width most) (Kind kind) Unknown
+unfoldable pub permit : FieldKind → ℕ → ℕ → ℕ → Option FieldKind
+permit kind width least most = cond (leb least width && leb width most) (Some kind) None
 
 -- the kind of the row with this code
-unfoldable pub kind_in : List Row → ℕ → ℕ → StoredKind
-kind_in [] code width = Unknown
+unfoldable pub kind_in : List Row → ℕ → ℕ → Option FieldKind
+kind_in [] code width = None
 kind_in (row its kind least most ∷ rest) code width =
     cond (eqb code its) (permit kind width least most) (kind_in rest code width)
 
--- the kind of a field stored as this code and width, Unknown where the table has no such pair
-unfoldable pub kind_of : ℕ → ℕ → StoredKind
+-- the kind of a field stored as this code and width, where the table has such a pair
+unfoldable pub kind_of : ℕ → ℕ → Option FieldKind
 kind_of code width = kind_in kinds code width
 
 -- whether a kind is a blob's

@@ -5,6 +5,7 @@ pub mod Fields
 pub mod Header
 pub mod Numbers
 pub mod Answers
+pub mod Opened
 pub mod Names
 pub mod Rules
 pub mod Steps

@@ -1,13 +1,11 @@
 -- The numbers of a header, for any bytes: no rule is asked for here. Definitions only.
-use Rattle.std.specs.Prelude.{ℕ, ◌-◌, cond, ◌&&◌, List, leb, replicate}
+use Rattle.std.specs.Prelude.{ℕ, ◌-◌, cond, ◌&&◌, List, leb, Option, Some, None}
 use Rattle.header.specs.Stored.{stored_of, block_size, area_at, names_at}
 use Rattle.header.specs.Fields.{width_at, kind_at, width_sum, offsets_of}
 use Rattle.header.specs.declared.Header.{Header}
 use Rattle.header.specs.declared.stored.Stored.{Stored}
-use Rattle.header.specs.declared.kind.StoredKind.{StoredKind}
-use Rattle.header.specs.declared.kind.StoredKind.TheVariants.{Kind, Unknown}
+use Rattle.header.specs.declared.kind.FieldKind.{FieldKind}
 use Rattle.header.specs.declared.field.Field.{Field}
-use Rattle.header.specs.declared.field.Field.TheVariants.{Is, Missing}
 
 -- the stored numbers, with a key length and the fields' offsets
 unfoldable pub numbers_with : Stored → ℕ → List ℕ → Header
@@ -39,37 +37,20 @@ numbers_in t s =
 unfoldable pub numbers_of : List ℕ → Header
 numbers_of t = numbers_in t (stored_of t)
 
--- every number 0
-unfoldable pub no_numbers : Header
-no_numbers =
-    record {
-      version = 0;
-      header_size = 0;
-      block_size = 0;
-      blocks = 0;
-      record_size = 0;
-      records = 0;
-      first = 0;
-      last = 0;
-      free = 0;
-      fields = 0;
-      key_fields = 0;
-      area = 0;
-      names = 0;
-      key_length = 0;
-      offsets = replicate 256 0;
-    }
-
 -- ---- a field, counted from 1 as document 01 counts them
 
--- a field of a kind that the table has; a header that keeps the rules has no other
-unfoldable pub field_with : StoredKind → ℕ → ℕ → Field
-field_with (Kind kind) width offset = Is kind width offset
-field_with Unknown width offset = Missing
+-- a field by its kind, its width and its offset
+abbrev pub field_is : FieldKind → ℕ → ℕ → Option Field
+field_is kind width offset = Some (record { kind = kind; width = width; offset = offset })
 
--- kind, width and offset of field f; Missing where there is no such field
-unfoldable pub field_of : List ℕ → Header → ℕ → Field
+-- a field of a kind that the table has; a header that keeps the rules has no other
+unfoldable pub field_with : Option FieldKind → ℕ → ℕ → Option Field
+field_with (Some kind) width offset = field_is kind width offset
+field_with None width offset = None
+
+-- kind, width and offset of field f; None where there is no such field
+unfoldable pub field_of : List ℕ → Header → ℕ → Option Field
 field_of t h f =
     cond (leb 1 f && leb f h.fields)
     (field_with (kind_at t h.area (f - 1)) (width_at t h.area (f - 1)) (width_sum t h.area (f - 1)))
-    Missing
+    None

@@ -1,86 +1,67 @@
--- The refusal numbers of document 01 and of what joined it. A check that accepts answers 0. Definitions only.
-use Rattle.std.specs.Prelude.{ℕ, Bool, false, cond, ◌||◌, List, [], ◌∷◌, eqb}
+-- The refusals of document 01 and of what joined it: their numbers, and how they enter an answer. Definitions only.
+use Rattle.std.specs.Prelude.{ℕ, Bool, true, false, cond, ◌||◌, List, [], ◌∷◌, eqb, Result, Ok, Err}
+use Rattle.header.specs.declared.refusal.Refusal.{Refusal}
+use Rattle.header.specs.declared.refusal.Refusal.TheVariants.{TooShort, NotATable, UnknownVersion, Encrypted}
+use Rattle.header.specs.declared.refusal.Refusal.TheVariants.{HeaderLimit, WrongLength, FieldRule, ChainRule}
+use Rattle.header.specs.declared.refusal.Refusal.TheVariants.{WrongCount, KeyOrder, NoMeaning, BlobCell, BadArgument}
+use Rattle.header.specs.declared.refusal.Refusal.TheVariants.{ShortBuffer, UnfitBlob, IndexTooShort, NotAnIndex}
+use Rattle.header.specs.declared.refusal.Refusal.TheVariants.{IndexVersion, IndexLimit, IndexLength, IndexTree}
 
--- ---- table rules; 14 is tried between 7 and 8
+-- the number of a refusal
+unfoldable pub number : Refusal → ℕ
+-- table rules; 14 is tried between 7 and 8
+number TooShort = 1
+number NotATable = 2
+number UnknownVersion = 3
+number Encrypted = 4
+number HeaderLimit = 5
+number WrongLength = 6
+number FieldRule = 7
+number ChainRule = 8
+number WrongCount = 9
+number KeyOrder = 10
+-- cells, arguments and lent buffers
+number NoMeaning = 11
+number BlobCell = 12
+number BadArgument = 13
+number ShortBuffer = 14
+number UnfitBlob = 18
+-- the index file
+number IndexTooShort = 21
+number NotAnIndex = 22
+number IndexVersion = 23
+number IndexLimit = 25
+number IndexLength = 26
+number IndexTree = 27
 
-abbrev pub too_short : ℕ
-too_short = 1
+-- what rules answer: that they are kept, or a refusal
+abbrev pub Verdict : Type 0
+Verdict = Result (Unit {0}) Refusal
 
-abbrev pub not_a_table : ℕ
-not_a_table = 2
+abbrev pub kept : Verdict
+kept = Ok (tt {0})
 
-abbrev pub unknown_version : ℕ
-unknown_version = 3
+-- an answer's number: 0 where it is no refusal
+unfoldable pub answer_number : {A : Type 0} → Result A Refusal → ℕ
+answer_number (Ok result) = 0
+answer_number (Err refusal) = number refusal
 
-abbrev pub encrypted : ℕ
-encrypted = 4
-
-abbrev pub header_limit : ℕ
-header_limit = 5
-
-abbrev pub wrong_length : ℕ
-wrong_length = 6
-
-abbrev pub field_rule : ℕ
-field_rule = 7
-
-abbrev pub chain_rule : ℕ
-chain_rule = 8
-
-abbrev pub wrong_count : ℕ
-wrong_count = 9
-
-abbrev pub key_order : ℕ
-key_order = 10
-
--- ---- cells, arguments and lent buffers
-
-abbrev pub no_meaning : ℕ
-no_meaning = 11
-
-abbrev pub blob_cell : ℕ
-blob_cell = 12
-
-abbrev pub bad_argument : ℕ
-bad_argument = 13
-
-abbrev pub short_buffer : ℕ
-short_buffer = 14
-
-abbrev pub unfit_blob : ℕ
-unfit_blob = 18
-
--- ---- the index file
-
-abbrev pub index_too_short : ℕ
-index_too_short = 21
-
-abbrev pub not_an_index : ℕ
-not_an_index = 22
-
-abbrev pub index_version : ℕ
-index_version = 23
-
-abbrev pub index_limit : ℕ
-index_limit = 25
-
-abbrev pub index_length : ℕ
-index_length = 26
-
-abbrev pub index_tree : ℕ
-index_tree = 27
-
--- the number of a rule that is broken, or what the rules after it answer
-abbrev pub first_broken : Bool → ℕ → ℕ → ℕ
-first_broken kept number others = cond kept others number
+-- the refusal of a rule that is broken, or what the rules after it answer
+abbrev pub first_broken : Bool → Refusal → Verdict → Verdict
+first_broken rule refusal others = cond rule others (Err refusal)
 
 -- ---- the refusals that a call has
 
--- a number is one of these
-unfoldable pub one_of : List ℕ → ℕ → Bool
-one_of [] n = false
-one_of (m ∷ ms) n = eqb n m || one_of ms n
+-- a refusal is one of these
+unfoldable pub one_of : List Refusal → Refusal → Bool
+one_of [] r = false
+one_of (s ∷ ss) r = eqb (number r) (number s) || one_of ss r
+
+-- an answer is a result, or refuses with one of these
+unfoldable pub among : {A : Type 0} → List Refusal → Result A Refusal → Bool
+among refusals (Ok result) = true
+among refusals (Err refusal) = one_of refusals refusal
 
 -- those of rules 1 to 7
-unfoldable pub header_refusals : List ℕ
-header_refusals = too_short ∷ not_a_table ∷ unknown_version ∷ encrypted ∷ header_limit ∷ wrong_length ∷ field_rule ∷ []
+unfoldable pub header_refusals : List Refusal
+header_refusals = TooShort ∷ NotATable ∷ UnknownVersion ∷ Encrypted ∷ HeaderLimit ∷ WrongLength ∷ FieldRule ∷ []

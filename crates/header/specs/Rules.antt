@@ -1,11 +1,11 @@
 -- The header rules as plain propositions: what document 01 asks of a table's header, with each rule's refusal.
 -- Definitions only.
-use Rattle.std.specs.Prelude.{ℕ, suc, ◌+◌, ◌-◌, ◌*◌, ◌≤◌, ◌<◌, ◌≡◌, ◌⊎◌, length, get_or}
+use Rattle.std.specs.Prelude.{ℕ, suc, ◌+◌, ◌-◌, ◌*◌, ◌≤◌, ◌<◌, ◌≡◌, ◌⊎◌, length, get_or, true, Some, None}
 use mathlib.Core.List.{List, Memᴰ}
 use Rattle.words.specs.Numbers.{byte}
 use Rattle.header.specs.Kinds.{row, kinds, kind_of, Permitted}
 use Rattle.header.specs.Stored.{stored_of, unit, block_size, encryption_at, area_at, names_at}
-use Rattle.header.specs.Fields.{code_at, width_at, kind_at, width_sum, longest_name}
+use Rattle.header.specs.Fields.{code_at, width_at, kind_at, width_sum, longest_name, names_fit}
 use Rattle.header.specs.Header.{least_header, least_version, most_version, most_units}
 use Rattle.header.specs.Header.{block_head, most_blocks, most_fields, most_records}
 use Rattle.header.specs.Numbers.{numbers_of}
@@ -13,7 +13,6 @@ use Rattle.header.specs.declared.Header.{Header}
 use Rattle.header.specs.declared.stored.Stored.{Stored}
 use Rattle.header.specs.declared.kind.FieldKind.{FieldKind}
 use Rattle.header.specs.declared.kind.FieldKind.TheVariants.{Blob}
-use Rattle.header.specs.declared.kind.StoredKind.TheVariants.{Kind, Unknown}
 
 -- 5: every number within its limit
 pub record Limits (s : Stored) : Type 0 where
@@ -99,8 +98,8 @@ pub record Accepted (t : List ℕ) (h : Header) : Type 0 where
   pub key_length : h.key_length ≡ width_sum t h.area h.key_fields
   pub key_most : h.key_length ≤ h.record_size
   pub key_least : 1 ≤ h.key_fields → 1 ≤ h.key_length
-  pub pairs : (f : ℕ) → f < h.fields → kind_at t h.area f ≡ Unknown → ⊥
-  pub named : Names t h.header_size h.fields h.names
+  pub pairs : (f : ℕ) → f < h.fields → kind_at t h.area f ≡ None → ⊥
+  pub named : names_fit t h.header_size h.fields h.names ≡ true
 
 -- a field of such a table: its number is one of the fields', its kind and width are those of the stored pair, the
 -- kind permits the width, and it ends inside the record
@@ -108,7 +107,7 @@ pub record FieldBounds (t : List ℕ) (h : Header) (f : ℕ) (kind : FieldKind) 
   pub least : 1 ≤ f
   pub most : f ≤ h.fields
   pub wide : width ≡ width_at t h.area (f - 1)
-  pub stored : kind_of (code_at t h.area (f - 1)) width ≡ Kind kind
+  pub stored : kind_of (code_at t h.area (f - 1)) width ≡ Some kind
   pub permitted : Permitted kind width
   pub starts : offset ≡ width_sum t h.area (f - 1)
   pub inside : offset + width ≤ h.record_size

@@ -1,86 +1,73 @@
-// The answer of a header: refused with a number, or accepted once rule 7 is kept.
-// The module is private: its functions are helpers of `header::judge`, which meets what they require.
-ghost use Rattle.std.specs.Prelude.{◌≡◌, ◌≤◌};
+// The answer of a header that keeps rules 1 to 5: rules 6 and 7, and the header's numbers.
+// The module is private: its functions are helpers of `header::read` and `header::judge`, which meet what they require.
+ghost use Rattle.std.specs.Prelude.{◌≡◌, ◌≤◌, replicate};
 ghost use Rattle.header.specs.Header.{most_fields, most_units};
-ghost use Rattle.header.specs.Numbers.{no_numbers, numbers_with};
-ghost use Rattle.header.specs.Answers.{accepted_with, refused_with};
-ghost use Rattle.header.specs.Steps.{Placed, fields_answer};
+ghost use Rattle.header.specs.Numbers.{numbers_with};
+ghost use Rattle.header.specs.Steps.{Limited, Placed, fields_answer, rest_answer};
 
 use crate::stored::Stored;
-use crate::{Header, HeaderAnswer, fields, names, refusal, stored};
+use crate::{Header, Refusal, fields, names, rules, stored};
 
-// A refusal carries its number only.
-pub fn refused(number: u8) -> HeaderAnswer
-    ensures { result ≡ refused_with number }
-{
-    HeaderAnswer {
-        refusal: number,
-        header: Header {
-            version: 0,
-            header_size: 0,
-            block_size: 0,
-            blocks: 0,
-            record_size: 0,
-            records: 0,
-            first: 0,
-            last: 0,
-            free: 0,
-            fields: 0,
-            key_fields: 0,
-            area: 0,
-            names: 0,
-            key_length: 0,
-            offsets: [0u16; 256],
-        },
-    }
-}
-
-// The answer for a header that keeps every rule.
-fn accepted(s: Stored, key_length: u16, offsets: [u16; 256]) -> HeaderAnswer
+// The numbers of a header, as far as the fields have no part in them.
+fn numbers(s: Stored) -> Header
     requires { (s.units ≤ most_units) × (s.fields ≤ most_fields) }
-    ensures { result ≡ accepted_with (numbers_with s key_length offsets) }
+    ensures { result ≡ numbers_with s 0 (replicate 256 0) }
 {
-    HeaderAnswer {
-        refusal: refusal::ACCEPTED,
-        header: Header {
-            version: s.version,
-            header_size: s.header_size,
-            block_size: stored::block_bytes(s.units),
-            blocks: s.blocks,
-            record_size: s.record_size,
-            records: s.records,
-            first: s.first,
-            last: s.last,
-            free: s.free,
-            fields: s.fields,
-            key_fields: s.key_fields,
-            area: stored::area_at(s.version),
-            names: stored::names_at(s),
-            key_length,
-            offsets,
-        },
+    Header {
+        version: s.version,
+        header_size: s.header_size,
+        block_size: stored::block_bytes(s.units),
+        blocks: s.blocks,
+        record_size: s.record_size,
+        records: s.records,
+        first: s.first,
+        last: s.last,
+        free: s.free,
+        fields: s.fields,
+        key_fields: s.key_fields,
+        area: stored::area_at(s.version),
+        names: stored::names_at(s),
+        key_length: 0,
+        offsets: [0u16; 256],
     }
 }
 
-// Rule 7 and the answer, for a header that keeps rules 1 to 6 and has room for names.
-pub fn with_fields(t: &[u8], s: Stored) -> HeaderAnswer
+// Rule 7 and the numbers, for a header that keeps rules 1 to 6 and has room for names.
+fn with_fields(t: &[u8], s: Stored) -> Result<Header, Refusal>
     requires { Placed t.now s }
     ensures { result ≡ fields_answer t.now s }
 {
+    let mut header = numbers(s);
     let area = stored::area_at(s.version) as usize;
     let names = stored::names_at(s) as usize;
     let end = s.header_size as usize;
     let n = s.fields as usize;
     let keys = s.key_fields as usize;
-    let mut offsets = [0u16; 256];
-    if !fields::add_widths(t, area, keys, n, &mut offsets) {
-        return refused(refusal::FIELD_RULE);
+    if !fields::add_widths(t, area, keys, n, &mut header.offsets) {
+        return Err(Refusal::FieldRule);
     }
-    if offsets[n] != s.record_size {
-        return refused(refusal::FIELD_RULE);
+    if header.offsets[n] != s.record_size {
+        return Err(Refusal::FieldRule);
     }
     if !names::names_fit(t, names, end, n) {
-        return refused(refusal::FIELD_RULE);
+        return Err(Refusal::FieldRule);
     }
-    accepted(s, offsets[keys], offsets)
+    header.key_length = header.offsets[keys];
+    Ok(header)
+}
+
+// Rules 6 and 7 and the numbers, for a header that keeps rules 1 to 5.
+pub fn rest(front: &[u8], long: usize, s: Stored) -> Result<Header, Refusal>
+    requires { Limited front.now long s }
+    ensures { result ≡ rest_answer front.now long s }
+{
+    let whole = rules::is_length_right(long, s.header_size, s.blocks, s.units);
+    let room = rules::has_room(s);
+    if !whole {
+        return Err(Refusal::WrongLength);
+    }
+    if !room {
+        return Err(Refusal::FieldRule);
+    }
+    with_fields(front, s)
 }

@@ -5,23 +5,20 @@ ghost use Rattle.words.specs.Each.{each};
 ghost use Rattle.header.specs.Fields.{offsets_of, pair_right};
 ghost use Rattle.header.specs.Steps.{pair_judged};
 
-use crate::judged::Judged;
-use crate::kind::{FieldKind, StoredKind};
+use crate::kind::FieldKind;
 
 // The width of the pair at a place, if the table has its kind and it is no blob in the key.
-fn width_at(t: &[u8], at: usize, keyed: bool) -> Judged
+fn width_at(t: &[u8], at: usize, keyed: bool) -> Option<usize>
     requires { at + 2 ≤ length t.now }
     ensures { result ≡ pair_judged t.now at keyed }
 {
     let code = t[at];
     let width = t[at + 1] as usize;
-    let StoredKind::Kind(kind) = FieldKind::of(code, width) else {
-        return Judged::Bad;
-    };
+    let kind = FieldKind::of(code, width)?;
     if keyed & kind.is_blob() {
-        return Judged::Bad;
+        return None;
     }
-    Judged::Good(width)
+    Some(width)
 }
 
 // Whether the pairs of n fields are right, the first `keys` of them key fields. Where they are, place
@@ -32,14 +29,12 @@ pub fn add_widths(t: &[u8], area: usize, keys: usize, n: usize, offsets: &mut [u
     ensures offsets_after { result ≡ true → offsets.new ≡ offsets_of t.now area n }
 {
     let mut sum: u16 = 0;
-    let mut f: usize = 0;
-    while f < n {
-        let Judged::Good(width) = width_at(t, area + 2 * f, f < keys) else {
+    for f in 0..n {
+        let Some(width) = width_at(t, area + 2 * f, f < keys) else {
             return false;
         };
         sum += width as u16;
-        f += 1;
-        offsets[f] = sum;
+        offsets[f + 1] = sum;
     }
     true
 }

@@ -4,7 +4,7 @@ ghost use Rattle.header.specs.Kinds.{is_blob, kind_of, permit};
 
 // What a field holds. Currency (05) and number (06) hold the same values and are one kind here, and so are memo (0C),
 // binary (0D), formatted memo (0E), OLE (0F) and graphic (10), which are blobs.
-#[derive(Clone, Copy)]
+#[derive(Clone, Copy, Debug, PartialEq, Eq)]
 pub enum FieldKind {
     Text,
     Date,
@@ -13,21 +13,6 @@ pub enum FieldKind {
     Number,
     Logical,
     Blob,
-}
-
-// The kind of a stored pair of code and width, or none where the table has no such pair.
-#[derive(Clone, Copy)]
-pub enum StoredKind {
-    Kind(FieldKind),
-    Unknown,
-}
-
-// A row of document 01's table: the kind of a code, its least and its most width.
-#[derive(Clone, Copy)]
-struct KindRow {
-    kind: FieldKind,
-    least: usize,
-    most: usize,
 }
 
 impl FieldKind {
@@ -91,41 +76,42 @@ impl FieldKind {
 
     pub const GRAPHIC_MOST: usize = 250;
 
-    // The kind of a field that is stored as this code and width.
-    pub fn of(code: u8, width: usize) -> StoredKind
+    // The kind of a field that is stored as this code and width, where the table has such a pair.
+    pub fn of(code: u8, width: usize) -> Option<FieldKind>
         ensures { result ≡ kind_of code width }
     {
-        let row = FieldKind::row_of(code);
-        let kind = row.kind;
-        permitted(kind, width, row.least, row.most)
+        let (kind, least, most) = FieldKind::row_of(code);
+        let permitted = (least <= width) & (width <= most);
+        permitted.then_some(kind)
     }
 
-    // The row of a code: constants only, so that the compiler looks them up. A code that has none permits no width.
-    fn row_of(code: u8) -> KindRow
-        ensures { (width : ℕ) → permit result.kind width result.least result.most ≡ kind_of code width }
+    // The row of a code: its kind, its least and its most width, constants only, so that the compiler looks them up. A
+    // code that has none permits no width.
+    fn row_of(code: u8) -> (FieldKind, usize, usize)
+        ensures { (width : ℕ) → permit result.0 width result.1 result.2 ≡ kind_of code width }
     {
         match code {
-            Self::TEXT => kind_row(FieldKind::Text, Self::TEXT_LEAST, Self::TEXT_MOST),
-            Self::DATE => kind_row(FieldKind::Date, Self::DATE_WIDTH, Self::DATE_WIDTH),
-            Self::SHORT => kind_row(FieldKind::Short, Self::SHORT_WIDTH, Self::SHORT_WIDTH),
-            Self::LONG => kind_row(FieldKind::Long, Self::LONG_WIDTH, Self::LONG_WIDTH),
-            Self::CURRENCY => kind_row(
+            Self::TEXT => (FieldKind::Text, Self::TEXT_LEAST, Self::TEXT_MOST),
+            Self::DATE => (FieldKind::Date, Self::DATE_WIDTH, Self::DATE_WIDTH),
+            Self::SHORT => (FieldKind::Short, Self::SHORT_WIDTH, Self::SHORT_WIDTH),
+            Self::LONG => (FieldKind::Long, Self::LONG_WIDTH, Self::LONG_WIDTH),
+            Self::CURRENCY => (
                 FieldKind::Number,
                 Self::CURRENCY_WIDTH,
                 Self::CURRENCY_WIDTH,
             ),
-            Self::NUMBER => kind_row(FieldKind::Number, Self::NUMBER_WIDTH, Self::NUMBER_WIDTH),
-            Self::LOGICAL => kind_row(FieldKind::Logical, Self::LOGICAL_WIDTH, Self::LOGICAL_WIDTH),
-            Self::MEMO => kind_row(FieldKind::Blob, Self::MEMO_LEAST, Self::MEMO_MOST),
-            Self::BINARY => kind_row(FieldKind::Blob, Self::BINARY_LEAST, Self::BINARY_MOST),
-            Self::FORMATTED_MEMO => kind_row(
+            Self::NUMBER => (FieldKind::Number, Self::NUMBER_WIDTH, Self::NUMBER_WIDTH),
+            Self::LOGICAL => (FieldKind::Logical, Self::LOGICAL_WIDTH, Self::LOGICAL_WIDTH),
+            Self::MEMO => (FieldKind::Blob, Self::MEMO_LEAST, Self::MEMO_MOST),
+            Self::BINARY => (FieldKind::Blob, Self::BINARY_LEAST, Self::BINARY_MOST),
+            Self::FORMATTED_MEMO => (
                 FieldKind::Blob,
                 Self::FORMATTED_MEMO_LEAST,
                 Self::FORMATTED_MEMO_MOST,
             ),
-            Self::OLE => kind_row(FieldKind::Blob, Self::OLE_LEAST, Self::OLE_MOST),
-            Self::GRAPHIC => kind_row(FieldKind::Blob, Self::GRAPHIC_LEAST, Self::GRAPHIC_MOST),
-            _ => kind_row(FieldKind::Blob, 1, 0),
+            Self::OLE => (FieldKind::Blob, Self::OLE_LEAST, Self::OLE_MOST),
+            Self::GRAPHIC => (FieldKind::Blob, Self::GRAPHIC_LEAST, Self::GRAPHIC_MOST),
+            _ => (FieldKind::Blob, 1, 0),
         }
     }
 
@@ -133,32 +119,6 @@ impl FieldKind {
     pub fn is_blob(self) -> bool
         ensures { result ≡ is_blob self }
     {
-        match self {
-            FieldKind::Text => false,
-            FieldKind::Date => false,
-            FieldKind::Short => false,
-            FieldKind::Long => false,
-            FieldKind::Number => false,
-            FieldKind::Logical => false,
-            FieldKind::Blob => true,
-        }
+        self == FieldKind::Blob
     }
-}
-
-// The kind, where the width is within its limits.
-fn permitted(kind: FieldKind, width: usize, least: usize, most: usize) -> StoredKind
-    ensures { result ≡ permit kind width least most }
-{
-    if least <= width {
-        if width <= most {
-            return StoredKind::Kind(kind);
-        }
-    }
-    StoredKind::Unknown
-}
-
-fn kind_row(kind: FieldKind, least: usize, most: usize) -> KindRow
-    ensures { (result.kind ≡ kind) × (result.least ≡ least) × (result.most ≡ most) }
-{
-    KindRow { kind, least, most }
 }

@@ -1,33 +1,28 @@
 // The field names: zero-ended, 1 to 25 bytes each, wholly inside the header (rule 7).
-// The module is private: its functions are helpers of `header::judge` and `header::name_in`, which meet what they
-// require.
+// The module is private: its functions are helpers of `header::judge` and `Table::name`, which meet what they require.
 ghost use Rattle.std.specs.Prelude.{◌≡◌, true, suc, ◌≤◌, length};
 ghost use Rattle.header.specs.Fields.{name_length, name_start, names_fit};
 ghost use Rattle.header.specs.Steps.{next_name};
 
-use crate::judged::Judged;
-
 const LONGEST_NAME: usize = 25;
 
 // Where the name after the one at `at` begins, if that one fits: one name of the loop below.
-fn name_end(t: &[u8], at: usize, end: usize) -> Judged
+fn name_end(t: &[u8], at: usize, end: usize) -> Option<usize>
     requires { (at ≤ end) × (end ≤ length t.now) }
     ensures { result ≡ next_name t.now end at }
 {
-    let mut i: usize = 0;
-    while i <= LONGEST_NAME {
+    for i in 0..=LONGEST_NAME {
         if end <= at + i {
-            return Judged::Bad;
+            return None;
         }
         if t[at + i] == 0 {
             if i == 0 {
-                return Judged::Bad;
+                return None;
             }
-            return Judged::Good(at + i + 1);
+            return Some(at + i + 1);
         }
-        i += 1;
     }
-    Judged::Bad
+    None
 }
 
 // Whether n names fit from a place to the header's end.
@@ -36,13 +31,11 @@ pub fn names_fit(t: &[u8], start: usize, end: usize, n: usize) -> bool
     ensures { result ≡ names_fit t.now end n start }
 {
     let mut at = start;
-    let mut i: usize = 0;
-    while i < n {
-        let Judged::Good(next) = name_end(t, at, end) else {
+    for _ in 0..n {
+        let Some(next) = name_end(t, at, end) else {
             return false;
         };
         at = next;
-        i += 1;
     }
     true
 }
@@ -61,10 +54,8 @@ pub fn name_start(t: &[u8], start: usize, end: usize, n: usize) -> usize
     ensures { result ≡ name_start t.now n start }
 {
     let mut at = start;
-    let mut i: usize = 0;
-    while i < n {
-        at = at + name_length(t, at, end) + 1;
-        i += 1;
+    for _ in 0..n {
+        at += name_length(t, at, end) + 1;
     }
     at
 }

@@ -4,7 +4,8 @@
 //   78.7a/1fcx  a copy of 508 bytes from 78 on to 7A
 use crate::{answers, fields};
 use test_lines::after::after;
-use test_lines::lines::{Buffer, CASE, Line, SIZE, end, fresh, part, step};
+use test_lines::cases::Cases;
+use test_lines::lines::{Buffer, Line, part};
 
 // The header and, of an accepted table, its fields.
 fn show(table: &[u8]) {
@@ -14,41 +15,31 @@ fn show(table: &[u8]) {
     }
 }
 
-// Takes a byte of the cases.
-fn feed(t: &mut Buffer, first: &mut Buffer, line: Line, b: u8) -> Line {
-    if b == b'\n' {
-        if line.kind == CASE {
-            show(part(t, line.long));
-        }
-        return end(t, first, line);
-    }
-    step(t, line, b)
-}
+// What this program does with its cases.
+#[derive(Drop)]
+pub struct Headers;
 
-// Shows what a command asks for.
-fn ask(t: &Buffer, line: Line) {
-    let table = part(t, line.long);
-    let command = line.command;
-    match command {
-        b'!' => {
-            answers::show(table);
-        }
-        b'?' => fields::show(table, line.number),
-        _ => {}
+impl Cases for Headers {
+    fn ready(&self) -> Line {
+        Line::fresh()
     }
-}
 
-// Shows the cases of some lines; the first table is zero.
-pub fn run(lines: &[u8]) {
-    let mut t = [0u8; SIZE];
-    let mut first = [0u8; SIZE];
-    let mut line = fresh();
-    let mut i: usize = 0;
-    while i < lines.len() {
-        let b = lines[i];
-        i += 1;
-        line = feed(&mut t, &mut first, line, b);
-        ask(&t, line);
-        line = after(&mut t, line, 0, 0);
+    fn show(&self, t: &Buffer, line: Line) {
+        show(part(t, line.long));
+    }
+
+    fn keep(&mut self, _line: Line) {}
+
+    // Shows what a command asks for.
+    fn act(&mut self, t: &mut Buffer, line: Line) -> Line {
+        let table = part(t, line.long);
+        match line.command {
+            Some(b'!') => {
+                answers::show(table);
+            }
+            Some(b'?') => fields::show(table, line.number),
+            _ => {}
+        }
+        after(t, line)
     }
 }

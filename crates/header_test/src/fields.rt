@@ -1,8 +1,7 @@
 // A field of a table: kind, width and offset, ` | text 3 at 0`; ` | -` where there is no such field, ` | !7` where the
 // table is refused with 7.
-use header::refusal::ACCEPTED;
-use header::{Field, FieldKind};
-use test_lines::print::{letter, number, say};
+use header::{Field, FieldKind, Table};
+use test_lines::print::{letter, number, refused, say};
 
 fn name(kind: FieldKind) {
     match kind {
@@ -17,39 +16,27 @@ fn name(kind: FieldKind) {
 }
 
 fn values(field: Field) {
-    match field {
-        Field::Is {
-            kind,
-            width,
-            offset,
-        } => {
-            name(kind);
-            number(width as u16);
-            say(b" at ");
-            number(offset);
-        }
-        Field::Missing => letter(b'-'),
-    }
+    name(field.kind);
+    number(field.width);
+    say(b" at ");
+    number(field.offset);
 }
 
 // Shows field f, or the table's refusal.
 pub fn show(table: &[u8], f: usize) {
     say(b" | ");
-    let answer = header::read(table);
-    if answer.refusal != ACCEPTED {
-        letter(b'!');
-        number(answer.refusal as u16);
-        return;
+    match Table::open(table) {
+        Ok(opened) => match opened.field(f) {
+            Some(field) => values(field),
+            None => letter(b'-'),
+        },
+        Err(refusal) => refused(refusal),
     }
-    values(header::field_of(table, answer.header, f));
 }
 
 // Shows each of n fields, with the numbers right before and behind theirs.
 pub fn show_all(table: &[u8], n: u16) {
-    let end = n as usize + 2;
-    let mut f: usize = 0;
-    while f < end {
+    for f in 0..n as usize + 2 {
         show(table, f);
-        f += 1;
     }
 }

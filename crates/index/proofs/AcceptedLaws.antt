@@ -1,41 +1,42 @@
--- What reading an index's header answers, for the crates above: refused with a number only, or accepted with its
--- bounds. Assumes nothing.
-use Prim.Native.Nat.{ℕ, zero, suc, ◌≤◌}
-use mathlib.Core.Path.{◌≡◌, refl, sym, ◌∙◌}
+-- What reading an index's header answers, for the crates above: refused, or accepted with its bounds. Assumes nothing.
+use Rattle.std.specs.Prelude.{Ok, Err}
+use Prim.Native.Nat.{ℕ, ◌≤◌}
+use mathlib.Core.Path.{◌≡◌}
 use mathlib.Core.List.{List}
 use mathlib.Core.Logic.{◌⊎◌, inl, inr}
 use native.Mathlib.Omega.{arith}
+use Rattle.header.specs.Refusals.{kept}
+use Rattle.header.specs.declared.refusal.Refusal.{Refusal}
+use Rattle.header.proofs.VerdictLaws.{unless_kept, unless_refused_lem, unless_ok}
 use Rattle.index.specs.Stored.{stored_of}
-use Rattle.index.specs.Header.{most_levels, index_answer, refused_with, accepted_of, index_numbers, answer_with}
+use Rattle.index.specs.Header.{most_levels, index_answer, accepted_of, index_numbers}
 use Rattle.index.specs.Header.{index_of}
 use Rattle.index.specs.Rules.{Rooted, IndexRules, AcceptedIndex}
+use Rattle.index.specs.declared.IndexHeader.{IndexHeader}
 use Rattle.index.specs.declared.stored.Stored.{Stored}
 use Rattle.index.proofs.RuleLaws.{answer_gives, answer_takes}
 
--- ---- the number
-
-refusal_with : (m : ℕ) (x : List ℕ) → (answer_with m x).refusal ≡ m
-unfolding answer_with accepted_of refused_with
-refusal_with zero x = refl
-refusal_with (suc m) x = refl
-
 module _ (x : List ℕ) (n : ℕ) where
-  -- the header's number is the first broken rule's
-  pub refusal_is : (index_of x n).refusal ≡ index_answer x n
+  -- the header is refused as the rules say
+  pub refused_only : {r : Refusal} → index_answer x n ≡ Err r → index_of x n ≡ Err r
   unfolding index_of
-  refusal_is = refusal_with (index_answer x n) x
+  refused_only e = unless_refused_lem (index_answer x n) Err (Ok (index_numbers x)) e
+
+  -- or they are kept, and it has its numbers
+  pub kept_only : index_answer x n ≡ kept → index_of x n ≡ Ok (index_numbers x)
+  unfolding index_of
+  kept_only e = unless_kept (index_answer x n) Err (Ok (index_numbers x)) e
+
+  index_kept : (i : IndexHeader) → index_of x n ≡ Ok i → (index_answer x n ≡ kept) × (i ≡ index_numbers x)
+  unfolding index_of
+  index_kept i e = let p = unless_ok (index_answer x n) (Ok (index_numbers x)) e in (p.0, cc)
 
   -- demand 2 for an index's header: accepted exactly when it meets rules 21 to 26
-  pub index_gives : (index_of x n).refusal ≡ 0 → IndexRules x n
-  index_gives e = answer_gives x n (sym refusal_is ∙ e)
+  pub index_gives : (i : IndexHeader) → index_of x n ≡ Ok i → IndexRules x n
+  index_gives i e = answer_gives x n (index_kept i e).0
 
-  pub index_takes : IndexRules x n → (index_of x n).refusal ≡ 0
-  index_takes r = refusal_is ∙ answer_takes x n r
-
-  -- a refusal carries its number only
-  pub refused_only : (m : ℕ) → (index_of x n).refusal ≡ suc m → index_of x n ≡ refused_with (suc m)
-  unfolding index_of answer_with
-  refused_only m e = let f : index_answer x n ≡ suc m = sym refusal_is ∙ e in rw f
+  pub index_takes : IndexRules x n → index_of x n ≡ Ok (index_numbers x)
+  index_takes r = kept_only (answer_takes x n r)
 
 -- ---- an accepted header
 
@@ -48,24 +49,23 @@ some_levels : (s : Stored) → ((s.root ≡ 0) × (s.levels ≡ 0)) ⊎ Rooted s
 some_levels s (inl p) h = absurd (h p.0)
 some_levels s (inr r) h = r.levels_least
 
-module _ (x : List ℕ) (n : ℕ) (e : (index_of x n).refusal ≡ 0) where
+module _ (x : List ℕ) (n : ℕ) (i : IndexHeader) (e : index_of x n ≡ Ok i) where
   -- its numbers are those that are stored
-  pub accepted_numbers : index_of x n ≡ index_numbers x
-  unfolding index_of answer_with
-  accepted_numbers = let f : index_answer x n ≡ 0 = sym (refusal_is x n) ∙ e in rw f
+  pub accepted_numbers : i ≡ index_numbers x
+  accepted_numbers = (index_kept x n i e).1
 
   stored_accepted : AcceptedIndex x n (index_numbers x)
   unfolding accepted_of
   stored_accepted =
-      let r = index_gives x n e in
+      let r = index_gives x n i e in
       let l = r.limits in
       record {
-        same = sym accepted_numbers;
+        same = index_takes x n r;
         sound = record { whole = r.whole; size_least = omega (arith, l.size); size_most = l.size_most };
         entry_size = l.size;
         levels_most = few_levels (stored_of x) l.root;
         levels_least = some_levels (stored_of x) l.root;
       }
 
-  pub accepted_index : AcceptedIndex x n (index_of x n)
+  pub accepted_index : AcceptedIndex x n i
   accepted_index = rw accepted_numbers stored_accepted

@@ -1,4 +1,4 @@
--- The index rules as tests are the rules as propositions: the answer is 0 exactly when IndexRules holds. Assumes
+-- The index rules as tests are the rules as propositions: they are kept exactly when IndexRules holds. Assumes
 -- nothing.
 use Prim.Native.Nat.{ℕ, ◌+◌, ◌*◌}
 use mathlib.Core.Path.{◌≡◌, refl}
@@ -9,8 +9,12 @@ use lib.Dec.{eqb, leb}
 use lib.ListN.{length}
 use borrow.Author.Tests.{eq-eqb, eqb-true, le-leb, leb-true}
 use Rattle.words.proofs.Conjunctions.{both, join}
+use Rattle.header.specs.Refusals.{kept}
+use Rattle.header.specs.declared.refusal.Refusal.TheVariants.{IndexTooShort, NotAnIndex, IndexVersion, IndexLimit}
+use Rattle.header.specs.declared.refusal.Refusal.TheVariants.{IndexLength}
 use Rattle.header.specs.Stored.{unit}
-use Rattle.header.specs.Header.{least_version, most_version, most_units, block_head, most_blocks, known_version, length_right}
+use Rattle.header.specs.Header.{least_version, most_version, most_units, block_head, most_blocks, known_version}
+use Rattle.header.specs.Header.{length_right}
 use Rattle.header.proofs.VerdictLaws.{kept_of}
 use Rattle.blocks.specs.Shape.{in_file}
 use Rattle.blocks.proofs.ShapeLaws.{in_file_lem, file_has}
@@ -95,15 +99,15 @@ module _ (n : ℕ) (s : Stored) where
 -- ---- 21, 22, 23, 25 and 26
 
 module _ (x : List ℕ) (n : ℕ) where
-  pub answer_gives : index_answer x n ≡ 0 → IndexRules x n
+  pub answer_gives : index_answer x n ≡ kept → IndexRules x n
   unfolding index_answer long_enough is_index known_version length_right
   answer_gives e =
       let s = stored_of x in
-      let p1 = kept_of (long_enough x) 20 _ e in
-      let p2 = kept_of (is_index s) 21 _ p1.1 in
-      let p3 = kept_of (known_version s.version) 22 _ p2.1 in
-      let p4 = kept_of (limits_kept n s) 24 _ p3.1 in
-      let p5 = kept_of (length_right (length x) s.header_size s.blocks s.units) 25 0 p4.1 in
+      let p1 = kept_of (long_enough x) IndexTooShort _ e in
+      let p2 = kept_of (is_index s) NotAnIndex _ p1.1 in
+      let p3 = kept_of (known_version s.version) IndexVersion _ p2.1 in
+      let p4 = kept_of (limits_kept n s) IndexLimit _ p3.1 in
+      let p5 = kept_of (length_right (length x) s.header_size s.blocks s.units) IndexLength kept p4.1 in
       let v = both {a = leb least_version s.version} {b = leb s.version most_version} p3.0 in
       record {
         long = leb-true least_index (length x) p1.0;
@@ -114,7 +118,7 @@ module _ (x : List ℕ) (n : ℕ) where
         whole = eqb-true (length x) (s.header_size + s.blocks * (s.units * unit)) p5.0;
       }
 
-  pub answer_takes : IndexRules x n → index_answer x n ≡ 0
+  pub answer_takes : IndexRules x n → index_answer x n ≡ kept
   unfolding index_answer long_enough is_index known_version length_right
   answer_takes r =
       let s = stored_of x in

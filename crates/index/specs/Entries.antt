@@ -1,17 +1,14 @@
 -- Index entries fill blocks as records do: the key of n bytes, then three numbers of 16 bits, high byte first, the
 -- top bit complemented. The first of them is a block's number; the others are not judged. Definitions only.
-use Rattle.std.specs.Prelude.{ℕ, zero, suc, ◌+◌, cond, List, ◌≡◌, length}
+use Rattle.std.specs.Prelude.{ℕ, zero, suc, ◌+◌, cond, List, length, Option, Some, None}
 use Rattle.words.specs.Numbers.{big}
 use Rattle.words.specs.Order.{is_at_most, order}
 use Rattle.words.specs.Signed.{half, complemented}
-use Rattle.blocks.specs.Shape.{has_block, record_at, Sound}
+use Rattle.blocks.specs.Shape.{has_block, record_at}
 use Rattle.blocks.specs.Counts.{count_in}
 use Rattle.blocks.specs.declared.Shape.{Shape}
 use Rattle.table.specs.Records.{held}
 use Rattle.table.specs.Keys.{key_at}
-use Rattle.index.specs.declared.entries.Below.{Below}
-use Rattle.index.specs.declared.entries.Below.TheVariants.{Block, Nothing}
-use Rattle.index.specs.Header.{entry_numbers}
 
 -- 27: how many entries index block b has. It is 0 for a block outside the file and for one with a bad count, too
 unfoldable pub entries_in : List ℕ → Shape → ℕ → ℕ
@@ -31,13 +28,8 @@ entry_block x g n b i = block_number x (record_at g b i + n)
 
 -- the block that is named by the last, by place, of the first m entries of index block b whose key is at most the one
 -- sought
-unfoldable pub below : List ℕ → Shape → List ℕ → ℕ → ℕ → Below
-below x g key b zero = Nothing
+unfoldable pub below : List ℕ → Shape → List ℕ → ℕ → ℕ → Option ℕ
+below x g key b zero = None
 below x g key b (suc i) =
-    cond (is_at_most (order (entry_key x g (length key) b i) key)) (Block (entry_block x g (length key) b i))
+    cond (is_at_most (order (entry_key x g (length key) b i) key)) (Some (entry_block x g (length key) b i))
     (below x g key b i)
-
--- what reading entries asks of a file: its sizes are judged, and an entry is a key of n bytes and its numbers
-pub record EntriesInside (x : List ℕ) (g : Shape) (n : ℕ) : Type 0 where
-  pub sound : Sound x g
-  pub size : g.record_size ≡ n + entry_numbers

@@ -1,7 +1,11 @@
 -- Index rules 21, 22, 23, 25 and 26, tried in this order, and the header of an index file that keeps them; n is the
 -- table's key length. Definitions only.
-use Rattle.std.specs.Prelude.{ℕ, zero, suc, ◌+◌, ◌*◌, Bool, ◌&&◌, ◌||◌, List, [], ◌∷◌, eqb, leb, length}
-use Rattle.header.specs.Refusals.{index_too_short, not_an_index, index_version, index_limit, index_length, first_broken}
+use Rattle.std.specs.Prelude.{ℕ, ◌+◌, ◌*◌, Bool, ◌&&◌, ◌||◌, List, [], ◌∷◌, eqb, leb, length, Result, Ok, Err}
+use Rattle.header.specs.Refusals.{Verdict, kept, first_broken}
+use Rattle.header.specs.Answers.{unless_refused}
+use Rattle.header.specs.declared.refusal.Refusal.{Refusal}
+use Rattle.header.specs.declared.refusal.Refusal.TheVariants.{IndexTooShort, NotAnIndex, IndexVersion, IndexLimit}
+use Rattle.header.specs.declared.refusal.Refusal.TheVariants.{IndexLength}
 use Rattle.header.specs.Stored.{unit}
 use Rattle.header.specs.Header.{most_units, block_head, most_blocks, known_version, length_right}
 use Rattle.blocks.specs.Shape.{in_file}
@@ -58,37 +62,26 @@ limits_kept n s =
 abbrev pub length_kept : ℕ → Stored → Bool
 length_kept bytes s = length_right bytes s.header_size s.blocks s.units
 
--- the first broken rule's number, or 0. 23 is 3's rule
-unfoldable pub index_answer : List ℕ → ℕ → ℕ
+-- the first broken rule's refusal, or that the rules are kept. 23 is 3's rule
+unfoldable pub index_answer : List ℕ → ℕ → Verdict
 index_answer x n =
-    first_broken (long_enough x) index_too_short
-    (first_broken (is_index (stored_of x)) not_an_index
-    (first_broken (known_version (stored_of x).version) index_version
-    (first_broken (limits_kept n (stored_of x)) index_limit
-    (first_broken (length_kept (length x) (stored_of x)) index_length 0))))
+    first_broken (long_enough x) IndexTooShort
+    (first_broken (is_index (stored_of x)) NotAnIndex
+    (first_broken (known_version (stored_of x).version) IndexVersion
+    (first_broken (limits_kept n (stored_of x)) IndexLimit
+    (first_broken (length_kept (length x) (stored_of x)) IndexLength kept))))
 
 -- the refusals of these rules
-unfoldable pub index_refusals : List ℕ
-index_refusals = index_too_short ∷ not_an_index ∷ index_version ∷ index_limit ∷ index_length ∷ []
+unfoldable pub index_refusals : List Refusal
+index_refusals = IndexTooShort ∷ NotAnIndex ∷ IndexVersion ∷ IndexLimit ∷ IndexLength ∷ []
 
 -- ---- the answer
-
--- a refusal has its number and no other: the rest is 0
-unfoldable pub refused_with : ℕ → IndexHeader
-refused_with number =
-    record {
-      refusal = number;
-      shape = record { header_size = 0; block_size = 0; blocks = 0; record_size = 0 };
-      root = 0;
-      levels = 0;
-    }
 
 -- the numbers of a header that keeps the rules: the file's shape, whose records are the entries, the root and the
 -- levels
 unfoldable pub accepted_of : Stored → IndexHeader
 accepted_of s =
     record {
-      refusal = 0;
       shape = record {
         header_size = s.header_size;
         block_size = s.units * unit;
@@ -103,11 +96,6 @@ accepted_of s =
 abbrev pub index_numbers : List ℕ → IndexHeader
 index_numbers x = accepted_of (stored_of x)
 
--- the answer by its number: 0 has the numbers, any other has none
-unfoldable pub answer_with : ℕ → List ℕ → IndexHeader
-answer_with zero x = index_numbers x
-answer_with (suc number) x = refused_with (suc number)
-
--- what reading an index's header answers, for any bytes and any key length
-unfoldable pub index_of : List ℕ → ℕ → IndexHeader
-index_of x n = answer_with (index_answer x n) x
+-- what reading an index's header answers, for any bytes and any key length: a refusal, or the header's numbers
+unfoldable pub index_of : List ℕ → ℕ → Result IndexHeader Refusal
+index_of x n = unless_refused (index_answer x n) Err (Ok (index_numbers x))

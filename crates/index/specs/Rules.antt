@@ -1,12 +1,15 @@
 -- The index rules as plain propositions, what an accepted index gives the crates above, and a walk's count.
 -- Definitions only.
-use Rattle.std.specs.Prelude.{ℕ, ◌+◌, ◌*◌, ◌≤◌, ◌≡◌, List, ◌⊎◌, length}
+use Rattle.std.specs.Prelude.{ℕ, ◌+◌, ◌*◌, ◌≤◌, ◌≡◌, List, ◌⊎◌, length, Result, Ok, Err}
+use Rattle.header.specs.Refusals.{number}
+use Rattle.header.specs.declared.refusal.Refusal.{Refusal}
 use Rattle.header.specs.Stored.{unit}
 use Rattle.header.specs.Header.{least_version, most_version, most_units, block_head, most_blocks}
 use Rattle.blocks.specs.Shape.{Sound}
-use Rattle.lookup.specs.declared.found.Found.TheVariants.{At, Refused}
+use Rattle.lookup.specs.Found.{found_at}
 use Rattle.index.specs.Stored.{stored_of}
 use Rattle.index.specs.Header.{least_index, index_kind, entry_numbers, most_levels, index_of}
+use Rattle.index.specs.Walk.{found_of, reads_of}
 use Rattle.index.specs.declared.IndexHeader.{IndexHeader}
 use Rattle.index.specs.declared.stored.Stored.{Stored}
 use Rattle.index.specs.declared.walking.Walked.{Walked}
@@ -44,7 +47,7 @@ pub record IndexRules (x : List ℕ) (n : ℕ) : Type 0 where
 
 -- what an accepted index gives the crates above: bounds, and where its entries stand
 pub record AcceptedIndex (x : List ℕ) (n : ℕ) (i : IndexHeader) : Type 0 where
-  pub same : i ≡ index_of x n
+  pub same : index_of x n ≡ Ok i
   pub sound : Sound x i.shape
   pub entry_size : i.shape.record_size ≡ n + entry_numbers
   pub levels_most : i.levels ≤ most_levels
@@ -52,7 +55,7 @@ pub record AcceptedIndex (x : List ℕ) (n : ℕ) (i : IndexHeader) : Type 0 whe
 
 -- what a walk's count is by its answer, where `reads` index blocks were read before and there are so many levels to
 -- come: 0 with a refusal, whose number is not 0; one a level with a record; no more than that where the key is absent
-pub record Reads (reads level : ℕ) (w : Walked) : Type 0 where
-  pub refused : (n : ℕ) → w.found ≡ Refused n → (1 ≤ n) × (w.reads ≡ 0)
-  pub found : (b p : ℕ) → w.found ≡ At b p → w.reads ≡ reads + level
-  pub most : w.reads ≤ reads + level
+pub record Reads (reads level : ℕ) (w : Result Walked Refusal) : Type 0 where
+  pub refused : (r : Refusal) → w ≡ Err r → (1 ≤ number r) × (reads_of w ≡ 0)
+  pub found : (b p : ℕ) → found_of w ≡ Ok (found_at b p) → reads_of w ≡ reads + level
+  pub most : reads_of w ≤ reads + level

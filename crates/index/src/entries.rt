@@ -1,58 +1,24 @@
 // The entries of an index block: how many there are, the block that one names, and the block that a key leads to.
 ghost use Rattle.std.specs.Prelude.{◌≡◌, ◌+◌, ◌≤◌, length};
-ghost use Rattle.blocks.specs.Shape.{RunInside, Sound};
+ghost use Rattle.blocks.specs.Shape.{RunInside};
 ghost use Rattle.index.specs.Header.{entry_numbers};
-ghost use Rattle.index.specs.Entries.{EntriesInside, below, block_number, entries_in};
-ghost use Rattle.index.specs.Steps.{descent_number, descent_of};
+ghost use Rattle.index.specs.Entries.{below, block_number, entries_in};
+ghost use Rattle.index.specs.Steps.{descent_of};
 
-use blocks::{Count, Shape};
-use header::refusal;
+use blocks::BlockFile;
+use header::Refusal;
 
 // The top bit of a number of 16 bits, which an entry has complemented.
-const TOP_BIT: u64 = 32768;
+const TOP_BIT: u16 = 0x8000;
 
-const NUMBER_WIDTH: usize = 2;
-
-// The block that a key leads to from an index block, or that every entry's key is above it.
-#[derive(Clone, Copy)]
-pub enum Below {
-    Block(u16),
-    Nothing,
-}
-
-// What an index block answers to a key, or its refusal's number: it may be outside the file, have a bad count or no
-// entry.
-#[derive(Clone, Copy)]
-pub enum Descent {
-    Read(Below),
-    Refused(u8),
-}
-
-impl Descent {
-    // The refusal's number; 0 where the block was read.
-    pub fn number(self) -> u8
-        ensures { result ≡ descent_number self }
-    {
-        match self {
-            Descent::Read(_) => refusal::ACCEPTED,
-            Descent::Refused(number) => number,
-        }
-    }
-}
-
-// How many entries an index block has; 0 too where it is outside the file or its count is bad. A helper: its
-// caller has judged the file's sizes.
-pub fn entries_in(x: &[u8], shape: Shape, block: usize) -> u16
-    requires { Sound x.now shape }
-    ensures { result ≡ entries_in x.now shape block }
+// How many entries an index block has; 0 too where it is outside the file or its count is bad.
+pub fn entries_in(file: &BlockFile, block: usize) -> u16
+    ensures { result ≡ entries_in file.now.bytes.now file.now.shape block }
 {
-    if !blocks::has_block(shape, block) {
+    if !file.shape.has_block(block) {
         return 0;
     }
-    let Count::Records(count) = blocks::count_in(x, shape, block) else {
-        return 0;
-    };
-    count
+    file.count(block).unwrap_or(0)
 }
 
 // The block that an entry names by the number at an offset. A helper: its caller has found the entry in the file.
@@ -60,37 +26,33 @@ pub fn block_named(x: &[u8], at: usize) -> u16
     requires { at + 2 ≤ length x.now }
     ensures { result ≡ block_number x.now at }
 {
-    let number = words::number(x, at, NUMBER_WIDTH);
-    if TOP_BIT <= number {
-        return (number - TOP_BIT) as u16;
-    }
-    (number + TOP_BIT) as u16
+    u16::from_be_bytes([x[at], x[at + 1]]).wrapping_add(TOP_BIT)
 }
 
-// The block named by the last of an index block's entries, by place, whose key is at most the one sought.
-fn find_below(x: &[u8], shape: Shape, block: usize, count: u16, key: &[u8]) -> Below
-    requires { RunInside x.now shape (length key.now + entry_numbers) block count }
-    ensures { result ≡ below x.now shape key.now block count }
+// The block named by the last of an index block's entries, by place, whose key is at most the one sought. None where
+// every entry's key is above it.
+fn find_below(file: &BlockFile, block: usize, count: u16, key: &[u8]) -> Option<u16>
+    requires { RunInside file.now.bytes.now file.now.shape (length key.now + entry_numbers) block count }
+    ensures { result ≡ below file.now.bytes.now file.now.shape key.now block count }
 {
-    let mut i = count;
-    while 0 < i {
-        i -= 1;
-        let at = blocks::record_at(shape, block, i as usize);
-        if words::compare(x, at, key, 0, key.len()).is_at_most() {
-            return Below::Block(block_named(x, at + key.len()));
+    for i in (0..count).rev() {
+        let at = file.shape.record_at(block, i as usize);
+        if words::compare(file.bytes, at, key, 0, key.len()).is_le() {
+            return Some(block_named(file.bytes, at + key.len()));
         }
     }
-    Below::Nothing
+    None
 }
 
-// The way down from an index block. A helper of the walk, which has judged the index's header.
-pub fn descend(x: &[u8], shape: Shape, block: usize, key: &[u8]) -> Descent
-    requires { EntriesInside x.now shape (length key.now) }
-    ensures { result ≡ descent_of x.now shape key.now block }
+// The way down from an index block: the block that the key leads to, or None; 27 where the block is outside the file,
+// has a bad count or no entry. A helper of the walk, which has judged the index's header.
+pub fn descend(file: &BlockFile, block: usize, key: &[u8]) -> Result<Option<u16>, Refusal>
+    requires { file.now.shape.record_size ≡ length key.now + entry_numbers }
+    ensures { result ≡ descent_of file.now.bytes.now file.now.shape key.now block }
 {
-    let count = entries_in(x, shape, block);
+    let count = entries_in(file, block);
     if count == 0 {
-        return Descent::Refused(refusal::INDEX_TREE);
+        return Err(Refusal::IndexTree);
     }
-    Descent::Read(find_below(x, shape, block, count, key))
+    Ok(find_below(file, block, count, key))
 }

@@ -1,5 +1,6 @@
 -- In a table that the check accepts, whose first key field is compared, the records in chain order are in the order of
 -- their first cells. Assumes nothing.
+use Rattle.std.specs.Prelude.{Ok}
 use Prim.Native.Nat.{ℕ, ◌+◌, ◌≤◌}
 use mathlib.Core.Path.{◌≡◌, sym, ap, ◌∙◌}
 use mathlib.Core.List.{List}
@@ -9,9 +10,10 @@ use native.Mathlib.Omega.{arith}
 use lib.ListN.{get_or}
 use Rattle.words.specs.Numbers.{Bytes}
 use Rattle.words.specs.Order.{NotLater, order, range}
-use Rattle.words.specs.declared.Order.TheVariants.{Less}
+use Rattle.std.specs.declared.cmp.Ordering.TheVariants.{Less}
 use Rattle.words.proofs.Ranges.{range_front_not_later}
 use Rattle.header.specs.Fields.{width_sum}
+use Rattle.header.specs.Refusals.{kept}
 use Rattle.header.specs.Header.{header_refusal}
 use Rattle.header.specs.Numbers.{numbers_of}
 use Rattle.header.specs.declared.Header.{Header}
@@ -26,7 +28,6 @@ use Rattle.cell.specs.Locating.{cell_start, field_width, BothSteps}
 use Rattle.cell.specs.Reading.{HasMeaning}
 use Rattle.cell.specs.declared.value.Value.{Value}
 use Rattle.cell.specs.declared.value.Value.TheVariants as Val
-use Rattle.cell.specs.declared.value.Cell.TheVariants.{Is}
 use Rattle.cell.proofs.AmountLaws.{ordered_at_most, zero_later}
 use Rattle.cell.proofs.CellOrder.{BytesMean, blank_before, blank_zeros, zeros_blank, cell_there, read_ordered}
 use Rattle.cell.proofs.LocatingLaws.{field_of_block, place_there}
@@ -43,7 +44,7 @@ use Rattle.cursor.specs.Rules.{Gives}
 use Rattle.cursor.proofs.Stepping.{stepping}
 use Rattle.key_list.specs.KeyList.{ComparedKey, Before, first_cell, first_bytes, ByFirstCell}
 
-module _ (t : List ℕ) (bytes : Bytes t) (room : ℕ) (accepts : table_answer t room ≡ 0) (k : ComparedKey t) where
+module _ (t : List ℕ) (bytes : Bytes t) (room : ℕ) (accepts : table_answer t room ≡ kept) (k : ComparedKey t) where
   abbrev h : Header
   h = numbers_of t
 
@@ -53,8 +54,8 @@ module _ (t : List ℕ) (bytes : Bytes t) (room : ℕ) (accepts : table_answer t
   table : AcceptedTable t (numbers_of t)
   table = accepted_table t room accepts
 
-  kept : header_refusal t ≡ 0
-  kept = accepted_takes t (table_gives t room accepts).header
+  header_kept : header_refusal t ≡ kept
+  header_kept = accepted_takes t (table_gives t room accepts).header
 
   -- ---- the first cell of a record
 
@@ -79,7 +80,7 @@ module _ (t : List ℕ) (bytes : Bytes t) (room : ℕ) (accepts : table_answer t
   its_cell : (p : Position) → Counted t g (used_of t h) p →
       BytesMean t p.block p.place 1 k.kind (first_cell t p)
   its_cell p c =
-      cell_there t p.block p.place 1 kept k.kind k.width (record_at g p.block p.place + k.offset)
+      cell_there t p.block p.place 1 header_kept k.kind k.width (record_at g p.block p.place + k.offset)
       (its_steps p c)
 
   -- it begins its record, and so its key
@@ -126,7 +127,7 @@ module _ (t : List ℕ) (bytes : Bytes t) (room : ℕ) (accepts : table_answer t
         keys_ascend_lem
 
     -- before a blank is a blank
-    before_blank : first_cell t q ≡ Is Val.Blank → first_cell t p ≡ Is Val.Blank
+    before_blank : first_cell t q ≡ Ok Val.Blank → first_cell t p ≡ Ok Val.Blank
     before_blank e =
         let x = its_cell p first_counted in
         let y = its_cell q second_counted in
@@ -137,7 +138,7 @@ module _ (t : List ℕ) (bytes : Bytes t) (room : ℕ) (accepts : table_answer t
         ∙ zeros_blank k.kind k.compared t from (field_width t 1)
         (blank_before t t from to (field_width t 1) bytes bytes x.0 y.0 cells_ascend z)
 
-    module _ (v w : Value) (e : first_cell t p ≡ Is v) (f : first_cell t q ≡ Is w) where
+    module _ (v w : Value) (e : first_cell t p ≡ Ok v) (f : first_cell t q ≡ Ok w) where
       amounts : OrderedAs (amount_of v) (amount_of w) (first_bytes t p) (first_bytes t q)
       amounts =
           read_ordered t t bytes bytes k.kind k.compared p.block p.place 1 k.width k.offset k.field
@@ -151,13 +152,14 @@ module _ (t : List ℕ) (bytes : Bytes t) (room : ℕ) (accepts : table_answer t
 
       -- with one key field the cell is the key
       only_key : h.key_fields ≡ 1 →
-          LessThan (amount_of v) (amount_of w) ⊎ TwoZeros (amount_of v) (amount_of w) (first_bytes t p) (first_bytes t q)
+          LessThan (amount_of v) (amount_of w)
+          ⊎ TwoZeros (amount_of v) (amount_of w) (first_bytes t p) (first_bytes t q)
       only_key o = amounts.earlier (rw (← only_width o) keys_ascend_lem)
 
   -- ---- three records
 
   between : (p q r : Position) → Before (records_of t h) p q → Before (records_of t h) q r → (v w : Value) →
-      first_cell t p ≡ Is v → first_cell t r ≡ Is w → LessThan blank (amount_of v) → HasMeaning (first_cell t q)
+      first_cell t p ≡ Ok v → first_cell t r ≡ Ok w → LessThan blank (amount_of v) → HasMeaning (first_cell t q)
   between p q r a b v w e f n =
       let x = its_cell p (first_counted p q a) in
       let y = its_cell q (second_counted p q a) in

@@ -23,14 +23,12 @@ fn list(table: &[u8]) {
     let head = listing::head(table, &mut out);
     io::write_all(STDOUT_FILENO, &out[..head.len]);
     let mut step = Cursor::start(table);
-    let mut left = head.records;
-    while 0 < left {
-        let Step::Record(cursor) = step else {
+    for _ in 0..head.records {
+        let Ok(Step::Record(cursor)) = step else {
             return;
         };
         let len = listing::line(table, cursor.block, cursor.place, &mut out);
         io::write_all(STDOUT_FILENO, &out[..len]);
         step = cursor.step(table);
-        left -= 1;
     }
 }

@@ -1,36 +1,23 @@
 -- The text of a cell, case by case; what a cell of a table gives for printing it, and how long it is. Assumes nothing.
-use Prim.Native.Nat.{ℕ, suc, ◌+◌, ◌-◌, ◌≤◌, ◌<◌}
-use mathlib.Core.Path.{◌≡◌, sym, ap, ◌∙◌, subst}
+use Prim.Native.Nat.{ℕ, ◌+◌, ◌≤◌}
+use mathlib.Core.Path.{◌≡◌, subst}
 use mathlib.Core.Bool.{Bool, true}
 use mathlib.Core.List.{List, [], ◌∷◌, ◌++◌}
-use native.Mathlib.Omega.{arith}
-use lib.IntN.{ℤ, pos, negsuc}
+use lib.IntN.{ℤ}
 use lib.Ieee.{Float, binary64, to_bits}
 use lib.Ieee.Scale.{finite}
 use lib.ListN.{length}
-use lib.Signed.{mag}
 use borrow.Author.Tests.{le-leb}
 use Rattle.words.specs.Order.{range}
-use Rattle.words.specs.Signed.{shifted}
-use Rattle.cell.specs.Values.{content_of, answer_of}
+use Rattle.cell.specs.Values.{Cell, content_of, answer_of}
 use Rattle.cell.specs.declared.value.Value.{Value}
 use Rattle.cell.specs.declared.value.Value.TheVariants as Val
-use Rattle.cell.specs.declared.value.Cell.{Cell}
-use Rattle.cell.specs.declared.value.Cell.TheVariants.{Is, Refused}
-use Rattle.buffer.specs.Text.{decimal, minus, signed_text, shifted_text, hex_text}
-use Rattle.buffer.proofs.TextLaws.{shifted_plain, shifted_minus}
+use Rattle.header.specs.Refusals.{number}
+use Rattle.header.specs.declared.refusal.Refusal.{Refusal}
+use Rattle.std.specs.Prelude.{Ok, Err}
+use Rattle.buffer.specs.Text.{decimal, signed_text, hex_text}
 use Rattle.listing.specs.Listing.{bang, letter, cell_text}
 use Rattle.listing.specs.Steps.{Printable, PrintableCell, value_text}
-
--- a signed number is what it is with `top` added
-pub shifted_is : (top : ℕ) (z : ℤ) → mag z < top → shifted_text top (shifted top z) ≡ signed_text z
-unfolding signed_text
-shifted_is top (pos n) l =
-    let e : n + top - top ≡ n = omega arith in
-    sym (shifted_plain top (n + top) (omega arith)) ∙ ap decimal e
-shifted_is top (negsuc n) l =
-    let e : top - (top - suc n) ≡ suc n = omega arith in
-    sym (shifted_minus top (top - suc n) (omega arith)) ∙ ap (λ (k : ℕ). minus ∷ decimal k) e
 
 -- ---- case by case
 
@@ -78,14 +65,15 @@ module _ (t : List ℕ) (v : Value) where
 -- ---- a cell
 
 module _ (t : List ℕ) (c : Cell) where
-  pub value_text_lem : (v : Value) → c ≡ Is v → value_text t v ≡ cell_text (answer_of t c)
+  pub value_text_lem : (v : Value) → c ≡ Ok v → value_text t v ≡ cell_text (answer_of t c)
   unfolding answer_of
   value_text_lem v e = rw e
 
-  pub refused_text_lem : (n : ℕ) → c ≡ Refused n → bang ∷ [] ++ decimal n ≡ cell_text (answer_of t c)
+  pub refused_text_lem : (r : Refusal) (n : ℕ) → c ≡ Err r → n ≡ number r →
+      bang ∷ [] ++ decimal n ≡ cell_text (answer_of t c)
   unfolding answer_of cell_text
-  refused_text_lem n e = rw e
+  refused_text_lem r n e l = rw (e, l)
 
-  pub value_printable : (v : Value) → c ≡ Is v → PrintableCell t c → Printable t v
+  pub value_printable : (v : Value) → c ≡ Ok v → PrintableCell t c → Printable t v
   unfolding PrintableCell
   value_printable v e p = subst (PrintableCell t) e p

@@ -11,14 +11,14 @@ use Rattle.header.specs.Numbers.{numbers_of}
 use Rattle.header.specs.Answers.{header_answer}
 use Rattle.header.specs.Rules.{Accepted}
 use Rattle.header.specs.declared.Header.{Header}
-use Rattle.header.specs.declared.HeaderAnswer.{HeaderAnswer}
+use Rattle.header.specs.declared.refusal.Refusal.{Refusal}
+use Rattle.header.specs.Refusals.{number}
+use Rattle.std.specs.Prelude.{Result, Ok, Err}
 use Rattle.header.proofs.AcceptedLaws.{read_numbers, first_kept, first_refused, first_holds}
-use Rattle.cell.specs.Values.{content_of, answer_of, part_of, value_part}
+use Rattle.cell.specs.Values.{Cell, content_of, answer_of, part_of, value_part}
 use Rattle.cell.specs.Reading.{block_cell}
 use Rattle.cell.specs.declared.value.Value.{Value}
 use Rattle.cell.specs.declared.value.Value.TheVariants as Val
-use Rattle.cell.specs.declared.value.Cell.{Cell}
-use Rattle.cell.specs.declared.value.Cell.TheVariants.{Is, Refused}
 use Rattle.cell.proofs.PlaceLaws.{ends, stands_in, inside_in, most_in}
 use Rattle.cell.proofs.Finite.{stands_finite}
 use Rattle.buffer.specs.Pieces.{Room, Wrote}
@@ -26,7 +26,7 @@ use Rattle.buffer.specs.Text.{decimal}
 use Rattle.buffer.proofs.PieceLaws.{wrote_nothing}
 use Rattle.buffer.proofs.TextLaws.{decimal_most, signed_most, hex_long}
 use Rattle.listing.specs.Listing.{bar, dot, newline, cell_text, cells_text, record_text, line_cells, line_of}
-use Rattle.listing.specs.Steps.{Printable, PrintableCell, value_text}
+use Rattle.listing.specs.Steps.{Printable, PrintableCell, value_text, barred_text}
 
 -- ---- a cell of a table
 
@@ -34,15 +34,15 @@ use Rattle.listing.specs.Steps.{Printable, PrintableCell, value_text}
 pub cell_printable : (t : List ℕ) (h : Header) → Accepted t h → (b p f : ℕ) (c : Cell) → c ≡ block_cell t h b p f →
     PrintableCell t c
 unfolding PrintableCell Printable part_of value_part
-cell_printable t h a b p f (Refused n) e = tt
-cell_printable t h a b p f (Is Val.Blank) e = tt
-cell_printable t h a b p f (Is (Val.Short z)) e = tt
-cell_printable t h a b p f (Is (Val.Long z)) e = tt
-cell_printable t h a b p f (Is (Val.Date d)) e = tt
-cell_printable t h a b p f (Is (Val.Number x)) e =
+cell_printable t h a b p f (Err r) e = tt
+cell_printable t h a b p f (Ok Val.Blank) e = tt
+cell_printable t h a b p f (Ok (Val.Short z)) e = tt
+cell_printable t h a b p f (Ok (Val.Long z)) e = tt
+cell_printable t h a b p f (Ok (Val.Date d)) e = tt
+cell_printable t h a b p f (Ok (Val.Number x)) e =
     stands_finite x t h b p f (stands_in t h a b p f (Val.Number x) (sym e))
-cell_printable t h a b p f (Is (Val.Logical l)) e = tt
-cell_printable t h a b p f (Is (Val.Text start len)) e =
+cell_printable t h a b p f (Ok (Val.Logical l)) e = tt
+cell_printable t h a b p f (Ok (Val.Text start len)) e =
     subst (λ (c : Cell). ends c ≤ length t) (sym e) (inside_in t h a b p f)
 
 -- ---- how long it is
@@ -68,8 +68,8 @@ unfolding answer_of part_of cell_text
 cell_most t h a b p f = go (block_cell t h b p f) (inside_in t h a b p f) (most_in t h a b p f)
   where
     go : (c : Cell) → ends c ≤ length t → (part_of c).len ≤ 255 → length (cell_text (answer_of t c)) ≤ 255
-    go (Is v) i m = value_most t v i m
-    go (Refused n) i m = omega (arith, decimal_most n)
+    go (Ok v) i m = value_most t v i m
+    go (Err r) i m = omega (arith, decimal_most (number r))
 
 -- ---- the cells of a line
 
@@ -80,10 +80,14 @@ module _ (t : List ℕ) (h : Header) (b p : ℕ) where
   no_cells s i = wrote_nothing s i
 
   -- one more
-  pub cells_step : (n k : ℕ) (piece : List ℕ) → k ≡ suc n → piece ≡ cell_text (answer_of t (block_cell t h b p k))
-      → cells_text t h b p n ++ bar ∷ piece ≡ cells_text t h b p k
+  behind : (n k : ℕ) (c : Cell) → k ≡ suc n → c ≡ block_cell t h b p k →
+      cells_text t h b p n ++ barred_text t c ≡ cells_text t h b p k
   unfolding cells_text
-  cells_step n k piece e q = rw (q, e)
+  behind n k c e q = rw (q, e)
+
+  pub cells_step : (k : ℕ) (c : Cell) → 1 ≤ k → c ≡ block_cell t h b p k →
+      cells_text t h b p (k - 1) ++ barred_text t c ≡ cells_text t h b p k
+  cells_step k c l e = behind (k - 1) k c (omega arith) e
 
   grown : (n : ℕ)
       → length (cells_text t h b p (suc n)) ≡ length (cells_text t h b p n) + suc
@@ -104,7 +108,8 @@ module _ (t : List ℕ) (h : Header) (b p : ℕ) where
       Room s i (cells_text t h b p n)
   room_few {s} {i} n m l r =
       let e : m - n + n ≡ m = omega arith in
-      let h = subst (λ (k : ℕ). length (cells_text t h b p n) ≤ length (cells_text t h b p k)) e (cells_grow (m - n) n) in
+      let h =
+      subst (λ (k : ℕ). length (cells_text t h b p n) ≤ length (cells_text t h b p k)) e (cells_grow (m - n) n) in
       record { fits = omega (arith, h, r.fits) }
 
   pub cells_most : Accepted t h → (n : ℕ) → length (cells_text t h b p n) ≤ 256 * n
@@ -115,24 +120,24 @@ module _ (t : List ℕ) (h : Header) (b p : ℕ) where
       omega (arith, cells_most a n, g, cell_most t h a b p (suc n))
 
 -- the cells of a refused table
-abbrev none_of : ℕ → List ℕ
-none_of n = []
+abbrev none_of : Refusal → List ℕ
+none_of r = []
 
 module _ (t : List ℕ) (b p : ℕ) where
   -- of a header that was read as r: the line of a refused table has no cells, that of an accepted one all of them
-  module _ (r : HeaderAnswer) (read : r ≡ header_answer t) where
-    pub line_bare : (r.refusal ≡ 0 → ⊥) → decimal b ++ dot ∷ [] ++ decimal p ++ newline ∷ [] ≡ line_of t b p
+  module _ (r : Result Header Refusal) (read : r ≡ header_answer t) where
+    pub line_bare : {x : Refusal} → r ≡ Err x → decimal b ++ dot ∷ [] ++ decimal p ++ newline ∷ [] ≡ line_of t b p
     unfolding line_of line_cells
-    line_bare ne =
-        let none = first_refused t r read none_of (record_text t (numbers_of t) b p) ne in
+    line_bare e =
+        let none = first_refused t r read none_of (record_text t (numbers_of t) b p) e in
         rw none (ap (λ (x : List ℕ). x ++ newline ∷ []) (sym (append-nil (decimal b ++ dot ∷ [] ++ decimal p))))
 
-    pub line_full : r.refusal ≡ 0
-        → decimal b ++ dot ∷ [] ++ decimal p ++ record_text t r.header b p ++ newline ∷ [] ≡ line_of t b p
+    pub line_full : {h : Header} → r ≡ Ok h
+        → decimal b ++ dot ∷ [] ++ decimal p ++ record_text t h b p ++ newline ∷ [] ≡ line_of t b p
     unfolding line_of line_cells
-    line_full z =
-        let all = first_kept t r read none_of (record_text t (numbers_of t) b p) z in
-        let same = ap (λ (h : Header). record_text t h b p) (read_numbers t r read z) ∙ sym all in
+    line_full e =
+        let all = first_kept t r read none_of (record_text t (numbers_of t) b p) e in
+        let same = ap (λ (h : Header). record_text t h b p) (read_numbers t r read e) ∙ sym all in
         ap (λ (x : List ℕ). decimal b ++ dot ∷ [] ++ decimal p ++ x ++ newline ∷ []) same
 
   pub front_most : length (decimal b ++ dot ∷ [] ++ decimal p) ≤ 41

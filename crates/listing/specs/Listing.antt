@@ -1,8 +1,11 @@
 -- The listing of a table: `refused N`, or one head line and a line for each record in chain order. Definitions only.
-use Rattle.std.specs.Prelude.{ℕ, zero, suc, Bool, cond, List, [], ◌∷◌, ◌++◌, ltb, length}
+use Rattle.std.specs.Prelude.{ℕ, zero, suc, Bool, cond, List, [], ◌∷◌, ◌++◌, ltb, length, Err}
 use Rattle.std.specs.Float.{binary64}
 use Rattle.std.specs.Float.Ieee.{to_bits}
-use Rattle.header.specs.Refusals.{short_buffer}
+use Rattle.header.specs.Refusals.{Verdict}
+use Rattle.header.specs.Refusals
+use Rattle.header.specs.declared.refusal.Refusal.{Refusal}
+use Rattle.header.specs.declared.refusal.Refusal.TheVariants.{ShortBuffer}
 use Rattle.header.specs.Header.{most_blocks}
 use Rattle.header.specs.Numbers.{numbers_of}
 use Rattle.header.specs.Answers.{unless_refused, header_first}
@@ -70,7 +73,7 @@ record_text t h b p = cells_text t h b p h.fields
 
 -- the cells of a line: a table that breaks one of 1 to 7 has none
 unfoldable pub line_cells : List ℕ → ℕ → ℕ → List ℕ
-line_cells t b p = header_first t (λ (number : ℕ). []) (record_text t (numbers_of t) b p)
+line_cells t b p = header_first t (λ (refusal : Refusal). []) (record_text t (numbers_of t) b p)
 
 -- block.place, then each cell
 unfoldable pub line_of : List ℕ → ℕ → ℕ → List ℕ
@@ -88,12 +91,12 @@ abbrev pub most_bytes : ℕ
 most_bytes = 65536
 
 -- 14 for a longer one, before all else; then what the table check answers with marks enough
-unfoldable pub list_answer : List ℕ → ℕ
-list_answer t = cond (ltb most_bytes (length t)) short_buffer (table_answer t most_blocks)
+unfoldable pub list_answer : List ℕ → Verdict
+list_answer t = cond (ltb most_bytes (length t)) (Err ShortBuffer) (table_answer t most_blocks)
 
 -- its refusals: 14, then the table check's
-unfoldable pub list_refusals : List ℕ
-list_refusals = short_buffer ∷ table_refusals
+unfoldable pub list_refusals : List Refusal
+list_refusals = ShortBuffer ∷ table_refusals
 
 -- the head line
 unfoldable pub head_text : ℕ → ℕ → ℕ → List ℕ
@@ -101,8 +104,8 @@ head_text fields keys records =
     fields_word ++ decimal fields ++ key_word ++ decimal keys ++ records_word ++ decimal records ++ newline ∷ []
 
 -- the line of a refusal
-unfoldable pub refused_text : ℕ → List ℕ
-refused_text refusal = refused_word ++ decimal refusal ++ newline ∷ []
+unfoldable pub refused_text : Refusal → List ℕ
+refused_text refusal = refused_word ++ decimal (Refusals.number refusal) ++ newline ∷ []
 
 -- the first line
 unfoldable pub head_of : List ℕ → List ℕ
@@ -112,11 +115,11 @@ head_of t =
 
 -- the records that are listed: none of a refused table
 unfoldable pub listed : List ℕ → List Position
-listed t = unless_refused (list_answer t) (λ (number : ℕ). []) (records_of t (numbers_of t))
+listed t = unless_refused (list_answer t) (λ (refusal : Refusal). []) (records_of t (numbers_of t))
 
 -- how many they are
 unfoldable pub listed_count : List ℕ → ℕ
-listed_count t = unless_refused (list_answer t) (λ (number : ℕ). 0) (numbers_of t).records
+listed_count t = unless_refused (list_answer t) (λ (refusal : Refusal). 0) (numbers_of t).records
 
 -- what is printed of any bytes
 unfoldable pub listing_of : List ℕ → List ℕ

@@ -1,11 +1,9 @@
 -- What the functions that put a line together say of each other. Definitions only.
-use Rattle.std.specs.Prelude.{ℕ, ◌+◌, ◌≤◌, ◌≡◌, true, List, ◌∷◌, length}
+use Rattle.std.specs.Prelude.{ℕ, ◌+◌, ◌≤◌, ◌≡◌, true, List, ◌∷◌, length, Ok, Err}
 use Rattle.std.specs.Float.Ieee.Scale.{finite}
-use Rattle.cell.specs.Values.{content_of, answer_of}
+use Rattle.cell.specs.Values.{Cell, content_of, answer_of}
 use Rattle.cell.specs.declared.value.Value.{Value}
 use Rattle.cell.specs.declared.value.Value.TheVariants as Val
-use Rattle.cell.specs.declared.value.Cell.{Cell}
-use Rattle.cell.specs.declared.value.Cell.TheVariants.{Is, Refused}
 use Rattle.listing.specs.Listing.{bar, cell_text}
 
 -- the text of a value
@@ -28,5 +26,5 @@ Printable t (Val.Text start len) = start + len ≤ length t
 
 -- the same of a cell
 unfoldable pub PrintableCell : List ℕ → Cell → Type 0
-PrintableCell t (Is v) = Printable t v
-PrintableCell t (Refused n) = Unit {0}
+PrintableCell t (Ok v) = Printable t v
+PrintableCell t (Err refusal) = Unit {0}

@@ -4,34 +4,14 @@ ghost use Rattle.std.specs.Prelude.{◌≡◌, true};
 ghost use Rattle.std.specs.Float.{binary64};
 ghost use Rattle.std.specs.Float.Ieee.{to_bits};
 ghost use Rattle.std.specs.Float.Ieee.Scale.{finite};
-ghost use Rattle.header.specs.Rules.{Accepted};
 ghost use Rattle.buffer.specs.Pieces.{Room, Wrote};
-ghost use Rattle.buffer.specs.Text.{hex_text, shifted_text, signed_text};
+ghost use Rattle.buffer.specs.Text.{hex_text};
 ghost use Rattle.listing.specs.Listing.{letter, record_text};
 ghost use Rattle.listing.specs.Steps.{Printable, PrintableCell, barred_text, value_text};
 
-use buffer::{put_byte, put_bytes, put_decimal, put_hex, put_shifted};
-use cell::{Cell, Value};
-use header::Header;
-
-// What is added to a short and to a long, so that none is below 0.
-const SHORT_TOP: u64 = 32768;
-
-const LONG_TOP: u64 = 2147483648;
-
-// A short with its top added.
-fn short_shifted(z: i16) -> u64
-    ensures { shifted_text 32768 result ≡ signed_text z }
-{
-    cell::shifted_short(z)
-}
-
-// A long, in the same way.
-fn long_shifted(z: i32) -> u64
-    ensures { shifted_text 2147483648 result ≡ signed_text z }
-{
-    cell::shifted_long(z)
-}
+use buffer::{put, put_byte, put_decimal, put_hex, put_signed};
+use cell::Value;
+use header::{Refusal, Table};
 
 // A finite number: the 16 hex digits of its bits.
 fn put_number(out: &mut [u8], at: usize, x: f64) -> usize
@@ -39,7 +19,7 @@ fn put_number(out: &mut [u8], at: usize, x: f64) -> usize
     requires x_value { finite x ≡ true }
     ensures { Wrote out.old at (hex_text (to_bits binary64 x)) out.new result }
 {
-    put_hex(out, at, f64::to_bits(x))
+    put_hex(out, at, x.to_bits())
 }
 
 // T or F.
@@ -57,51 +37,41 @@ fn put_value(out: &mut [u8], at: usize, table: &[u8], value: Value) -> usize
 {
     match value {
         Value::Blank => at,
-        Value::Short(z) => put_shifted(out, at, short_shifted(z), SHORT_TOP),
-        Value::Long(z) => put_shifted(out, at, long_shifted(z), LONG_TOP),
+        Value::Short(z) => put_signed(out, at, i64::from(z)),
+        Value::Long(z) => put_signed(out, at, i64::from(z)),
         Value::Date(day) => put_decimal(out, at, day as u64),
         Value::Number(x) => put_number(out, at, x),
         Value::Logical(b) => put_byte(out, at, letter_of(b)),
-        Value::Text { start, len } => put_bytes(out, at, &table[start..start + len]),
+        Value::Text { start, len } => put(out, at, &table[start..start + len]),
     }
 }
 
 // A bar and a cell: its value, or an exclamation mark and the number of its refusal.
-fn put_cell(out: &mut [u8], at: usize, table: &[u8], cell: Cell) -> usize
+fn put_cell(out: &mut [u8], at: usize, table: &[u8], cell: Result<Value, Refusal>) -> usize
     requires room { Room out.old at (barred_text table.now cell) }
     requires printable_cell { PrintableCell table.now cell }
     ensures { Wrote out.old at (barred_text table.now cell) out.new result }
 {
     let behind = put_byte(out, at, b'|');
     match cell {
-        Cell::Is(value) => put_value(out, behind, table, value),
-        Cell::Refused(number) => {
+        Ok(value) => put_value(out, behind, table, value),
+        Err(refusal) => {
             let number_at = put_byte(out, behind, b'!');
-            put_decimal(out, number_at, number as u64)
+            put_decimal(out, number_at, u64::from(u8::from(refusal)))
         }
     }
 }
 
-// Every cell of the record at a block and a place of a table whose header is accepted.
-pub fn put_cells(
-    out: &mut [u8],
-    at: usize,
-    table: &[u8],
-    h: Header,
-    block: usize,
-    place: usize,
-) -> usize
-    requires room { Room out.old at (record_text table.now h block place) }
-    requires accepted { Accepted table.now h }
-    ensures { Wrote out.old at (record_text table.now h block place) out.new result }
+// Every cell of the record at a block and a place of a table.
+pub fn put_cells(out: &mut [u8], at: usize, table: &Table, block: usize, place: usize) -> usize
+    requires { Room out.old at (record_text table.now.bytes.now table.now.header block place) }
+    ensures { Wrote out.old at (record_text table.now.bytes.now table.now.header block place) out.new result }
 {
-    let fields = h.fields as usize;
+    let fields = table.header.fields as usize;
     let mut end = at;
-    let mut field: usize = 0;
-    while field < fields {
-        field += 1;
-        let cell = cell::read_in(table, h, block, place, field);
-        end = put_cell(out, end, table, cell);
+    for field in 1..=fields {
+        let cell = cell::read_in(table, block, place, field);
+        end = put_cell(out, end, table.bytes, cell);
     }
     end
 }

@@ -9,8 +9,8 @@ ghost use Rattle.io.specs.Counts.{IsPrefixLen};
 ghost use Rattle.buffer.specs.Pieces.{AtFront};
 ghost use Rattle.listing.specs.Listing.{head_of, head_text, line_of, listed_count, refused_text};
 
-use buffer::{put_byte, put_bytes, put_decimal};
-use header::refusal;
+use buffer::{put, put_byte, put_decimal};
+use header::{Refusal, Table};
 
 // The longest table that is listed, in bytes.
 pub const MOST_BYTES: usize = 65536;
@@ -33,29 +33,29 @@ pub fn head(table: &[u8], out: &mut [u8; 65536]) -> HeadLine
     ensures records_value { result.records ≡ listed_count table.now }
 {
     if MOST_BYTES < table.len() {
-        return refused(refusal::SHORT_BUFFER, out);
+        return refused(Refusal::ShortBuffer, out);
     }
     let mut marks = [0u8; MARKS];
-    let answer = table::read(table, &mut marks);
-    if answer.refusal != refusal::ACCEPTED {
-        return refused(answer.refusal, out);
-    }
-    let h = answer.header;
-    let len = put_head(out, h.fields, h.key_fields, h.records);
-    HeadLine {
-        len,
-        records: h.records,
+    match table::read(table, &mut marks) {
+        Ok(opened) => {
+            let h = &opened.header;
+            HeadLine {
+                len: put_head(out, h.fields, h.key_fields, h.records),
+                records: h.records,
+            }
+        }
+        Err(refusal) => refused(refusal, out),
     }
 }
 
 // The line of a refusal.
-fn refused(number: u8, out: &mut [u8; 65536]) -> HeadLine
+fn refused(refusal: Refusal, out: &mut [u8; 65536]) -> HeadLine
     ensures prefix_len { IsPrefixLen result.len out.new }
-    ensures at_front { AtFront out.old (refused_text number) out.new result.len }
+    ensures at_front { AtFront out.old (refused_text refusal) out.new result.len }
     ensures records_value { result.records ≡ 0 }
 {
-    let number_at = put_bytes(out, 0, b"refused ");
-    let end = put_decimal(out, number_at, number as u64);
+    let number_at = put(out, 0, b"refused ");
+    let end = put_decimal(out, number_at, u64::from(u8::from(refusal)));
     let len = put_byte(out, end, b'\n');
     HeadLine { len, records: 0 }
 }
@@ -65,11 +65,11 @@ fn put_head(out: &mut [u8; 65536], fields: u16, keys: u16, records: u32) -> usiz
     ensures prefix_len { IsPrefixLen result out.new }
     ensures at_front { AtFront out.old (head_text fields keys records) out.new result }
 {
-    let fields_at = put_bytes(out, 0, b"fields ");
+    let fields_at = put(out, 0, b"fields ");
     let fields_end = put_decimal(out, fields_at, fields as u64);
-    let keys_at = put_bytes(out, fields_end, b" key ");
+    let keys_at = put(out, fields_end, b" key ");
     let keys_end = put_decimal(out, keys_at, keys as u64);
-    let records_at = put_bytes(out, keys_end, b" records ");
+    let records_at = put(out, keys_end, b" records ");
     let end = put_decimal(out, records_at, records as u64);
     put_byte(out, end, b'\n')
 }
@@ -80,14 +80,12 @@ pub fn line(table: &[u8], block: u16, place: u16, out: &mut [u8; 65536]) -> usiz
     ensures prefix_len { IsPrefixLen result out.new }
     ensures at_front { AtFront out.old (line_of table.now block place) out.new result }
 {
-    let answer = header::read(table);
     let block_end = put_decimal(out, 0, block as u64);
     let place_at = put_byte(out, block_end, b'.');
     let cells_at = put_decimal(out, place_at, place as u64);
-    if answer.refusal != refusal::ACCEPTED {
+    let Ok(opened) = Table::open(table) else {
         return put_byte(out, cells_at, b'\n');
-    }
-    let h = answer.header;
-    let end = cells::put_cells(out, cells_at, table, h, block as usize, place as usize);
+    };
+    let end = cells::put_cells(out, cells_at, &opened, block as usize, place as usize);
     put_byte(out, end, b'\n')
 }

@@ -1,5 +1,6 @@
 -- A key that fits a table, and what the first record with a key is: the one at some index that has it, or none has it.
 -- Assumes nothing.
+use Rattle.std.specs.Prelude.{Option, None}
 use Prim.Native.Nat.{ℕ, zero, suc, ◌≤◌, ◌<◌}
 use mathlib.Core.Path.{◌≡◌, refl, sym, ◌∙◌}
 use mathlib.Core.Bool.{Bool, true, false, cond, false≢true}
@@ -9,17 +10,15 @@ use native.Mathlib.Omega.{arith}
 use lib.Dec.{eqb, leb}
 use lib.ListN.{length, get_or}
 use borrow.Author.Tests.{eq-eqb, eqb-true, le-leb, leb-true}
-use Rattle.words.proofs.Cases.{either}
 use Rattle.words.proofs.Conjunctions.{both, join}
 use Rattle.words.proofs.OrderLaws.{same_gives, same_takes}
 use Rattle.header.specs.declared.Header.{Header}
 use Rattle.blocks.specs.declared.Shape.{Shape}
 use Rattle.table.specs.Records.{Position}
 use Rattle.table.specs.Keys.{key_at}
-use Rattle.lookup.specs.Found.{lookup_of}
+use Rattle.lookup.specs.Found.{found_at}
 use Rattle.lookup.specs.Sought.{key_fits, is_sought, first_with}
 use Rattle.lookup.specs.declared.found.Found.{Found}
-use Rattle.lookup.specs.declared.found.Found.TheVariants.{At, Absent, Refused}
 
 -- ---- 13
 
@@ -46,13 +45,14 @@ module _ (t : List ℕ) (g : Shape) (key : List ℕ) where
   -- ---- what the first of some records with the key is
 
   -- the one at an index has the key and is the answer, or none has it
-  pub data Looked (ps : List Position) (r : Found) : Type 0 where
+  pub data Looked (ps : List Position) (r : Option Found) : Type 0 where
     finds : (p : Position) (i : ℕ) → i < length ps → get_or ps i p ≡ p → key_at t g (length key) p ≡ key →
-        r ≡ At p.block p.place → Looked ps r
-    misses : ((i : ℕ) (d : Position) → i < length ps → key_at t g (length key) (get_or ps i d) ≡ key → ⊥) → r ≡ Absent →
+        r ≡ found_at p.block p.place → Looked ps r
+    misses : ((i : ℕ) (d : Position) → i < length ps → key_at t g (length key) (get_or ps i d) ≡ key → ⊥) → r ≡ None →
         Looked ps r
 
-  later : (p : Position) (ps : List Position) (r : Found) → is_sought t g key p ≡ false → Looked ps r → Looked (p ∷ ps) r
+  later : (p : Position) (ps : List Position) (r : Option Found) → is_sought t g key p ≡ false → Looked ps r →
+      Looked (p ∷ ps) r
   later p ps r e (finds q i l there same at) = finds q (suc i) (omega arith) there same at
   later p ps r e (misses h none) = misses go none
     where
@@ -66,23 +66,6 @@ module _ (t : List ℕ) (g : Shape) (key : List ℕ) where
   looked (p ∷ ps) = go (is_sought t g key p) refl (looked ps)
     where
       go : (c : Bool) → is_sought t g key p ≡ c → Looked ps (first_with t g key ps) →
-          Looked (p ∷ ps) (cond c (At p.block p.place) (first_with t g key ps))
+          Looked (p ∷ ps) (cond c (found_at p.block p.place) (first_with t g key ps))
       go true e w = finds p 0 (omega arith) refl (key_gives p e) refl
       go false e w = later p ps (first_with t g key ps) e w
-
--- the first record with a key is one or is absent
-pub first_answers : (t : List ℕ) (g : Shape) (key : List ℕ) (ps : List Position) (n : ℕ) →
-    first_with t g key ps ≡ Refused n → ⊥
-first_answers t g key ps n e = go (looked t g key ps)
-  where
-    go : Looked t g key ps (first_with t g key ps) → ⊥
-    go (finds p i l there same at) = let z : ◌≡◌ {A = ℕ} 0 1 = cc in omega arith
-    go (misses none at) = let z : ◌≡◌ {A = ℕ} 0 1 = cc in omega arith
-
--- so its number is 0
-pub first_number : (t : List ℕ) (g : Shape) (key : List ℕ) (ps : List Position) →
-    (lookup_of (first_with t g key ps)).refusal ≡ 0
-unfolding lookup_of first_with
-first_number t g key [] = refl
-first_number t g key (p ∷ ps) =
-    either (λ (r : Found). (lookup_of r).refusal ≡ 0) (is_sought t g key p) _ _ refl (first_number t g key ps)

@@ -9,20 +9,24 @@ use blocks::Shape;
 
 // The first of a block's `count` records that has a key. A helper: its caller has found the block in the
 // file and its count good, and the key is no longer than a record.
-pub fn find_in_block(table: &[u8], shape: Shape, block: usize, count: u16, key: &[u8]) -> Found
+pub fn find_in_block(
+    table: &[u8],
+    shape: Shape,
+    block: usize,
+    count: u16,
+    key: &[u8],
+) -> Option<Found>
     requires { RunInside table.now shape (length key.now) block count }
     ensures { result ≡ first_with table.now shape key.now (places_from block 0 count) }
 {
-    let mut place: u16 = 0;
-    while place < count {
-        let at = blocks::record_at(shape, block, place as usize);
-        if words::compare(table, at, key, 0, key.len()).is_same() {
-            return Found::At {
+    for place in 0..count {
+        let at = shape.record_at(block, place as usize);
+        if words::compare(table, at, key, 0, key.len()).is_eq() {
+            return Some(Found {
                 block: block as u16,
                 place,
-            };
+            });
         }
-        place += 1;
     }
-    Found::Absent
+    None
 }

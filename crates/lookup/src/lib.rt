@@ -13,8 +13,8 @@ pub use found::Found;
 use header::Header;
 
 // Whether the table has key fields, and keys of this length.
-pub fn key_fits(h: Header, key: &[u8]) -> bool
-    ensures { result ≡ key_fits h key.now }
+pub fn key_fits(h: &Header, key: &[u8]) -> bool
+    ensures { result ≡ key_fits h.now key.now }
 {
     (1 <= h.key_fields) & (key.len() == h.key_length as usize)
 }

@@ -1,52 +1,56 @@
 -- Which numbers asking for a blob answers, and what a refusal leaves; and that the part is inside the file that the
 -- answer names. Assumes nothing.
-use Rattle.std.proofs.Common.{◌≡◌, ℕ, ◌+◌, ◌≤◌, true, List, [], ◌∷◌, ◌++◌, length, get_or, refl, subst, true≢false, arith}
-use Rattle.header.specs.Refusals.{short_buffer, one_of, header_refusals}
+use Rattle.std.proofs.Common.{◌≡◌, ℕ, ◌+◌, ◌≤◌, true, List, [], ◌∷◌, ◌++◌, length, get_or, refl, true≢false, arith}
+use Rattle.std.specs.Prelude.{Ok, Err}
+use Rattle.header.specs.Refusals.{number, one_of, header_refusals}
+use Rattle.header.specs.declared.refusal.Refusal.{Refusal}
+use Rattle.header.specs.declared.refusal.Refusal.TheVariants.{ShortBuffer}
 use Rattle.header.specs.Numbers.{numbers_of}
 use Rattle.header.specs.Rules.{Accepted}
-use Rattle.header.proofs.RefusalLaws.{one_of_back, one_of_not}
-use Rattle.blob.specs.Blob.{block_blob, blob_refusals, in_table, in_mb}
-use Rattle.blob.specs.declared.answer.Blob.{Blob}
-use Rattle.blob.specs.declared.answer.Blob.TheVariants.{Blank, InTable, InMb, Refused}
+use Rattle.header.proofs.RefusalLaws.{one_of_back}
+use Rattle.blob.specs.Blob.{Answer, block_blob, blob_refusals, in_table, in_mb}
+use Rattle.blob.specs.declared.answer.Blob.TheVariants.{Blank, InTable, InMb}
 use Rattle.blob.proofs.RefusalLaws.{blob_holds}
-use Rattle.words.proofs.Cases.{apart}
-use Rattle.blob.proofs.FindLaws.{refused_with_lem}
 use Rattle.blob.proofs.PartLaws.{table_within, mb_within}
-use Rattle.numbers.specs.Lent.{cleared, room_first}
+use Rattle.numbers.specs.Lent.{cleared, numbered, is_one}
 use Rattle.numbers.specs.Blob.{part_count, of_file, blob_given, blob_files, blob_numbers, RefusesBlob}
-use Rattle.numbers.proofs.LentLaws.{room_holds}
+use Rattle.numbers.proofs.LentLaws.{number_small, one_numbered, one_behind, room_holds}
 
 -- 1 to 7, 14, 13, 9, 18
-abbrev own_refusals : List ℕ
-own_refusals = header_refusals ++ short_buffer ∷ blob_refusals
+abbrev own_refusals : List Refusal
+own_refusals = header_refusals ++ ShortBuffer ∷ blob_refusals
 
-own_refusal : (n : ℕ) → one_of blob_refusals n ≡ true → one_of own_refusals n ≡ true
-own_refusal n w =
-    one_of_back n header_refusals (short_buffer ∷ blob_refusals) (one_of_back n (short_buffer ∷ []) blob_refusals w)
+own_refusal : (r : Refusal) → one_of blob_refusals r ≡ true → one_of own_refusals r ≡ true
+own_refusal r w =
+    one_of_back r header_refusals (ShortBuffer ∷ blob_refusals) (one_of_back r (ShortBuffer ∷ []) blob_refusals w)
 
 module _ (lent : List ℕ) where
-  abbrev Right : ℕ × List ℕ → Type 0
-  Right = RefusesBlob own_refusals lent
+  abbrev Right : Answer → Type 0
+  Right x = RefusesBlob own_refusals lent (blob_given lent x)
 
-  refused : (n : ℕ) → one_of own_refusals n ≡ true → Right (cleared lent n)
-  unfolding cleared
-  refused n w = record { number = one_of_back n blob_files own_refusals w; zeros = λ h. refl }
+  refused : (r : Refusal) → one_of own_refusals r ≡ true → Right (Err r)
+  unfolding blob_given cleared
+  refused r w =
+      record {
+        number_right = one_behind blob_files (numbered own_refusals) (number r) (one_numbered own_refusals r w);
+        zeros = λ h. refl;
+      }
 
-  given : (t mb : List ℕ) (b p f : ℕ) → Right (blob_given lent (block_blob t mb (numbers_of t) b p f))
-  unfolding blob_given one_of
+  given : (t mb : List ℕ) (b p f : ℕ) → Right (block_blob t mb (numbers_of t) b p f)
+  unfolding blob_given is_one
   given t mb b p f =
-      blob_holds (λ (x : Blob). Right (blob_given lent x))
-      (record { number = refl; zeros = λ h. absurd (true≢false h) })
-      (λ start len. record { number = refl; zeros = λ h. absurd (true≢false h) })
-      (λ start len. record { number = refl; zeros = λ h. absurd (true≢false h) })
-      (λ n w. refused n (own_refusal n w)) t mb (numbers_of t) b p f
+      blob_holds Right
+      (record { number_right = refl; zeros = λ h. absurd (true≢false h) })
+      (λ part. record { number_right = refl; zeros = λ h. absurd (true≢false h) })
+      (λ part. record { number_right = refl; zeros = λ h. absurd (true≢false h) })
+      (λ r w. refused r (own_refusal r w)) t mb (numbers_of t) b p f
 
 pub blob_refuses : (t mb : List ℕ) (b p f : ℕ) (lent : List ℕ) →
-    RefusesBlob (header_refusals ++ short_buffer ∷ blob_refusals) lent (blob_numbers t mb b p f lent)
-unfolding blob_numbers room_first
+    RefusesBlob (header_refusals ++ ShortBuffer ∷ blob_refusals) lent (blob_numbers t mb b p f lent)
+unfolding blob_numbers
 blob_refuses t mb b p f lent =
-    room_holds t lent blob_refusals part_count (cleared lent) _ (Right lent) (refused lent)
-    (λ a. given lent t mb b p f)
+    room_holds t (length lent) part_count (block_blob t mb (numbers_of t) b p f) blob_refusals (Right lent)
+    (refused lent) (λ a. given lent t mb b p f)
 
 -- ---- the part
 
@@ -57,36 +61,34 @@ pub record InFile (t mb : List ℕ) (answer : ℕ × List ℕ) : Type 0 where
 
 module _ (t mb lent : List ℕ) (b p f : ℕ) where
   -- a refusal names none
-  refused_in : (n : ℕ) → one_of own_refusals n ≡ true → InFile t mb (cleared lent n)
-  unfolding cleared one_of header_refusals
-  refused_in n w =
+  refused_in : (r : Refusal) → InFile t mb (blob_given lent (Err r))
+  unfolding blob_given cleared
+  refused_in r =
       record {
-        from_table = λ e. absurd (one_of_not n own_refusals (of_file in_table) w refl e);
-        from_mb = λ e. absurd (one_of_not n own_refusals (of_file in_mb) w refl e);
+        from_table = λ e. absurd (omega (arith, e, number_small r));
+        from_mb = λ e. absurd (omega (arith, e, number_small r));
       }
 
-  given_in : Accepted t (numbers_of t) → (x : Blob) → block_blob t mb (numbers_of t) b p f ≡ x
+  given_in : Accepted t (numbers_of t) → (x : Answer) → block_blob t mb (numbers_of t) b p f ≡ x
       → InFile t mb (blob_given lent x)
   unfolding blob_given
-  given_in a Blank e = record { from_table = λ z. absurd (omega (arith, z)); from_mb = λ z. absurd (omega (arith, z)) }
-  given_in a (InTable start len) e =
+  given_in a (Ok Blank) e =
+      record { from_table = λ z. absurd (omega (arith, z)); from_mb = λ z. absurd (omega (arith, z)) }
+  given_in a (Ok (InTable part)) e =
       record {
-        from_table = λ z. table_within t mb (numbers_of t) a b p f start len e;
+        from_table = λ z. table_within t mb (numbers_of t) a b p f part e;
         from_mb = λ z. absurd (omega (arith, z));
       }
-  given_in a (InMb start len) e =
+  given_in a (Ok (InMb part)) e =
       record {
         from_table = λ z. absurd (omega (arith, z));
-        from_mb = λ z. mb_within t mb (numbers_of t) a b p f start len e;
+        from_mb = λ z. mb_within t mb (numbers_of t) a b p f part e;
       }
-  given_in a (Refused n) e =
-      let Holds : Blob → Type 0 = λ x. (m : ℕ) → x ≡ Refused m → one_of blob_refusals m ≡ true in
-      let w = blob_holds Holds (λ m z. apart cc) (λ s l m z. apart cc) (λ s l m z. apart cc)
-      (λ k q m z. subst (λ (i : ℕ). one_of blob_refusals i ≡ true) (refused_with_lem z) q) t mb (numbers_of t) b p f n e in
-      refused_in n (own_refusal n w)
+  given_in a (Err r) e = refused_in r
 
   pub part_in_file : InFile t mb (blob_numbers t mb b p f lent)
-  unfolding blob_numbers room_first
+  unfolding blob_numbers
   part_in_file =
-      room_holds t lent blob_refusals part_count (cleared lent) _ (InFile t mb) refused_in
+      room_holds t (length lent) part_count (block_blob t mb (numbers_of t) b p f) blob_refusals
+      (λ (x : Answer). InFile t mb (blob_given lent x)) (λ r w. refused_in r)
       (λ a. given_in a (block_blob t mb (numbers_of t) b p f) refl)

@@ -1,22 +1,24 @@
 -- A record came, by the answer's number: then a cursor on a record is in front, and comes back from its number. By
 -- this: that number is no refusal's. Assumes nothing.
-use Rattle.std.proofs.Common.{◌≡◌, ℕ, ◌<◌, List, [], ◌∷◌, ◌++◌, get_or, refl, arith}
-use Rattle.header.specs.Refusals.{short_buffer, one_of, header_refusals}
+use Rattle.std.proofs.Common.{◌≡◌, ℕ, ◌<◌, List, [], ◌++◌, length, get_or, refl, arith}
+use Rattle.std.specs.Prelude.{Result, Ok, Err}
+use Rattle.header.specs.Refusals.{header_refusals}
+use Rattle.header.specs.declared.refusal.Refusal.{Refusal}
 use Rattle.header.specs.Numbers.{numbers_of}
 use Rattle.header.specs.Rules.{Accepted}
-use Rattle.header.proofs.RefusalLaws.{one_of_not}
 use Rattle.blocks.specs.Shape.{shape_of}
 use Rattle.blocks.proofs.ShapeLaws.{shape_blocks, sound}
 use Rattle.blocks.proofs.CountLaws.{count_few}
-use Rattle.cursor.specs.Cursor.{at_end, start_of, start_refusals, step_of, step_refusals}
-use Rattle.cursor.specs.Rules.{OnRecord, Answered, found, refusing}
+use Rattle.cursor.specs.Cursor.{Stepped, at_end, start_of, start_refusals, step_of, step_refusals}
+use Rattle.cursor.specs.Rules.{OnRecord, Answered, found}
 use Rattle.cursor.specs.declared.Cursor.{Cursor}
 use Rattle.cursor.specs.declared.Step.{Step}
-use Rattle.cursor.specs.declared.Step.TheVariants.{Record, End, Refused}
+use Rattle.cursor.specs.declared.Step.TheVariants.{Record, End}
 use Rattle.cursor.proofs.AnswerLaws.{start_answers, step_answers}
-use Rattle.numbers.specs.Lent.{cleared, room_first}
-use Rattle.numbers.specs.Cursor.{cursor_in, came, with_cursor, start_given, start_lent, step_given, step_lent}
-use Rattle.numbers.proofs.LentLaws.{room_holds}
+use Rattle.numbers.specs.Lent.{cleared}
+use Rattle.numbers.specs.Cursor.{cursor_in, came, with_cursor, put_step, refusal_only, start_given, start_lent}
+use Rattle.numbers.specs.Cursor.{step_given, step_lent}
+use Rattle.numbers.proofs.LentLaws.{number_small, room_holds}
 use Rattle.numbers.proofs.CursorLaws.{cursor_back}
 
 -- ---- a record came
@@ -53,31 +55,34 @@ module _ (t lent : List ℕ) (a : Accepted t (numbers_of t)) where
       }
 
   -- no refusal's number says that a record came
-  start_came : (s : Step) → Answered (header_refusals ++ start_refusals) t (shape_of (numbers_of t)) at_end s →
-      CameOn t lent (start_given lent s)
-  unfolding start_given cleared one_of header_refusals
-  start_came (Record c) (found o) e = in_front_lem c o
-  start_came (End c) w e = absurd (omega arith)
-  start_came (Refused n c) (refusing w) e = absurd (one_of_not n (header_refusals ++ start_refusals) came w refl e)
+  start_came : (s : Stepped) → Answered (header_refusals ++ start_refusals) t (shape_of (numbers_of t)) at_end s →
+      CameOn t lent (start_given lent (refusal_only s))
+  unfolding start_given put_step refusal_only cleared
+  start_came (Ok (Record c)) (found o) e = in_front_lem c o
+  start_came (Ok (End c)) w e = absurd (omega arith)
+  start_came (Err r) w e = absurd (omega (arith, e, number_small r.refusal))
 
-  step_came : (back : Cursor) (s : Step)
-      → Answered (header_refusals ++ step_refusals) t (shape_of (numbers_of t)) back s → CameOn t lent (step_given lent s)
-  unfolding step_given one_of header_refusals
-  step_came back (Record c) (found o) e = in_front_lem c o
-  step_came back (End c) w e = absurd (omega arith)
-  step_came back (Refused n c) (refusing w) e = absurd (one_of_not n (header_refusals ++ step_refusals) came w refl e)
+  step_came : (back : Cursor) (s : Stepped)
+      → Answered (header_refusals ++ step_refusals) t (shape_of (numbers_of t)) back s
+      → CameOn t lent (step_given lent (refusal_only s))
+  unfolding step_given put_step refusal_only
+  step_came back (Ok (Record c)) (found o) e = in_front_lem c o
+  step_came back (Ok (End c)) w e = absurd (omega arith)
+  step_came back (Err r) w e = absurd (omega (arith, e, number_small r.refusal))
 
 pub start_stands : (t lent : List ℕ) → (start_lent t lent).0 ≡ came → InFront t lent (start_lent t lent).1
-unfolding start_lent room_first cleared one_of header_refusals
+unfolding start_lent start_given cleared
 start_stands t lent =
-    room_holds t lent [] 1 (cleared lent) _ (CameOn t lent)
-    (λ n w e. absurd (one_of_not n (header_refusals ++ short_buffer ∷ []) came w refl e))
+    room_holds t (length lent) 1 (refusal_only (start_of t)) []
+    (λ (a : Result Step Refusal). CameOn t lent (start_given lent a))
+    (λ r w e. absurd (omega (arith, e, number_small r)))
     (λ a. start_came t lent a (start_of t) (start_answers t))
 
 pub step_stands : (t lent : List ℕ) → (step_lent t lent).0 ≡ came → InFront t lent (step_lent t lent).1
-unfolding step_lent one_of header_refusals
+unfolding step_lent step_given
 step_stands t lent =
     let c = cursor_in (get_or lent 0 0) in
-    room_holds t lent [] 1 (λ (n : ℕ). (n, lent)) _ (CameOn t lent)
-    (λ n w e. absurd (one_of_not n (header_refusals ++ short_buffer ∷ []) came w refl e))
+    room_holds t (length lent) 1 (refusal_only (step_of t c)) []
+    (λ (a : Result Step Refusal). CameOn t lent (step_given lent a))
+    (λ r w e. absurd (omega (arith, e, number_small r)))
     (λ a. step_came t lent a c (step_of t c) (step_answers t c))

@@ -3,41 +3,40 @@ use Rattle.std.proofs.Common.{◌≡◌, ℕ, Bool, true, false, cond, ◌&&◌,
 use Rattle.header.specs.Kinds.{kinds, permit, kind_in, kind_of}
 use Rattle.header.specs.declared.kind.FieldKind.{FieldKind}
 use Rattle.header.specs.declared.kind.FieldKind.TheVariants.{Blob}
-use Rattle.header.specs.declared.kind.StoredKind.{StoredKind}
-use Rattle.header.specs.declared.kind.StoredKind.TheVariants.{Kind, Unknown}
+use Rattle.std.specs.Prelude.{Option, Some, None}
 
 -- a row that permits the width has its kind
-permitted : (kind : FieldKind) (width least most : ℕ) → (permit kind width least most ≡ Unknown → ⊥) →
-    Kind kind ≡ permit kind width least most
+permitted : (kind : FieldKind) (width least most : ℕ) → (permit kind width least most ≡ None → ⊥) →
+    Some kind ≡ permit kind width least most
 unfolding permit
 permitted kind width least most = go (leb least width && leb width most)
   where
-    go : (b : Bool) → (cond b (Kind kind) Unknown ≡ Unknown → ⊥) → Kind kind ≡ cond b (Kind kind) Unknown
+    go : (b : Bool) → (cond b (Some kind) None ≡ None → ⊥) → Some kind ≡ cond b (Some kind) None
     go true h = refl
     go false h = absurd (h refl)
 
-module _ (code width : ℕ) (known : kind_of code width ≡ Unknown → ⊥) where
+module _ (code width : ℕ) (known : kind_of code width ≡ None → ⊥) where
   -- the code of a row
   pub by_row : (kind : FieldKind) (least most : ℕ) → kind_of code width ≡ permit kind width least most →
-      Kind kind ≡ kind_of code width
+      Some kind ≡ kind_of code width
   by_row kind least most e = permitted kind width least most (λ u. known (e ∙ u)) ∙ sym e
 
 -- what is known is a blob's
-abbrev OnlyBlob : StoredKind → Type 0
-OnlyBlob k = (k ≡ Unknown → ⊥) → Kind Blob ≡ k
+abbrev OnlyBlob : Option FieldKind → Type 0
+OnlyBlob k = (k ≡ None → ⊥) → Some Blob ≡ k
 
-one_row : (b : Bool) (width least most : ℕ) (rest : StoredKind) → OnlyBlob rest →
+one_row : (b : Bool) (width least most : ℕ) (rest : Option FieldKind) → OnlyBlob rest →
     OnlyBlob (cond b (permit Blob width least most) rest)
 one_row true width least most rest r = permitted Blob width least most
 one_row false width least most rest r = r
 
-no_row : OnlyBlob Unknown
+no_row : OnlyBlob None
 no_row h = absurd (h refl)
 
 -- every other code of the table is one of the five of blobs
-pub by_rest : (code width : ℕ) → (kind_of code width ≡ Unknown → ⊥) →
+pub by_rest : (code width : ℕ) → (kind_of code width ≡ None → ⊥) →
     (code ≡ 0x01 → ⊥) → (code ≡ 0x02 → ⊥) → (code ≡ 0x03 → ⊥) → (code ≡ 0x04 → ⊥) → (code ≡ 0x05 → ⊥) →
-    (code ≡ 0x06 → ⊥) → (code ≡ 0x09 → ⊥) → Kind Blob ≡ kind_of code width
+    (code ≡ 0x06 → ⊥) → (code ≡ 0x09 → ⊥) → Some Blob ≡ kind_of code width
 unfolding kind_of kind_in kinds
 by_rest code width known text date short long currency number logical =
     subst OnlyBlob

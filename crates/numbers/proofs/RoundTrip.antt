@@ -1,14 +1,16 @@
 -- A value given by numbers that is written with the answer 0 reads back, whatever the numbers: a double given by its
 -- bits is one of the format. Assumes nothing.
-use Rattle.std.proofs.Common.{◌≡◌, ℕ, eqb, ltb, List, ℤ, pos, negsuc}
+use Rattle.std.proofs.Common.{◌≡◌, ℕ, eqb, ltb, List, ℤ, pos, negsuc, ap}
 use lib.Ieee.{binary64, fits, of_bits}
 use lib.Ieee.Bits.{is_true, of_bits-fits}
 use Rattle.words.specs.Signed.{half, signed}
 use Rattle.words.proofs.Cases.{either}
+use Rattle.header.specs.Refusals.{Verdict, kept}
 use Rattle.cell.specs.Values.{Content, Held, short, long}
-use Rattle.cell.specs.Writing.{ReadsBack}
+use Rattle.cell.specs.Writing.{write_of, ReadsBack}
 use Rattle.cell.proofs.RoundTrip.{reads_back}
 use Rattle.numbers.specs.What as What
+use Rattle.numbers.proofs.LentLaws.{zero_kept}
 use Rattle.numbers.specs.Given.{fitted, date_given, logical_given, content_given, write_given}
 
 fitted_held : (w : ℕ) (kind : ℤ → Content) → ((z : ℤ) → Held (kind z)) → (z : ℤ) → Held (fitted w kind z)
@@ -34,5 +36,12 @@ given_held what value bytes =
 pub given_reads_back : (code width what value : ℕ) (bytes buffer out : List ℕ)
     → write_given code width what value bytes buffer ≡ (0, out)
     → ReadsBack code width (content_given what value bytes) buffer out
+unfolding write_given
 given_reads_back code width what value bytes buffer out h =
-    reads_back code width (content_given what value bytes) buffer out (given_held what value bytes) h
+    let w = write_of code width (content_given what value bytes) buffer in
+    let e : w.0 ≡ kept = zero_kept w.0 (ap (λ (x : ℕ × List ℕ). x.0) h) in
+    let f : w.1 ≡ out = ap (λ (x : ℕ × List ℕ). x.1) h in
+    reads_back code width (content_given what value bytes) buffer out (given_held what value bytes) (pairs w e f)
+  where
+    pairs : (w : Verdict × List ℕ) → w.0 ≡ kept → w.1 ≡ out → w ≡ (kept, out)
+    pairs (v, s) e f = rw (e, f)

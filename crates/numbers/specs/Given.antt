@@ -2,6 +2,7 @@
 use Rattle.std.specs.Prelude.{ℕ, ◌^◌, true, false, cond, List, ℤ, pos, negsuc, ◌==◌, from_bits, nat_lt}
 use Rattle.std.specs.Float.{binary64}
 use Rattle.words.specs.Signed.{half, signed}
+use Rattle.header.specs.Refusals.{answer_number}
 use Rattle.cell.specs.Values.{Content, nothing, blank, short, long, date, number, logical, text}
 use Rattle.cell.specs.Writing.{write_of}
 use Rattle.numbers.specs.What as What
@@ -43,5 +44,6 @@ content_given what value bytes =
     (cond (what == What.text) (text bytes) nothing))))))
 
 -- what the writer answers, with the whole buffer after it: 13, 12, 14, 11, and a refusal leaves the buffer as it was
-abbrev pub write_given : ℕ → ℕ → ℕ → ℕ → List ℕ → List ℕ → ℕ × List ℕ
-write_given code width what value bytes buffer = write_of code width (content_given what value bytes) buffer
+unfoldable pub write_given : ℕ → ℕ → ℕ → ℕ → List ℕ → List ℕ → ℕ × List ℕ
+write_given code width what value bytes buffer =
+    let w = write_of code width (content_given what value bytes) buffer in (answer_number w.0, w.1)

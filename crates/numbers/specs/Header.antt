@@ -1,6 +1,8 @@
 -- The numbers of a header and of a field, in their order. Definitions only.
-use Rattle.std.specs.Prelude.{ℕ, ◌-◌, List, [], ◌∷◌}
-use Rattle.header.specs.Refusals.{bad_argument}
+use Rattle.std.specs.Prelude.{ℕ, ◌-◌, List, [], ◌∷◌, length, Option, Some, None, Result, Ok, Err}
+use Rattle.words.specs.declared.part.Part.{Part}
+use Rattle.header.specs.declared.refusal.Refusal.{Refusal}
+use Rattle.header.specs.declared.refusal.Refusal.TheVariants.{BadArgument}
 use Rattle.header.specs.Fields.{code_at}
 use Rattle.header.specs.Numbers.{numbers_of, field_of}
 use Rattle.header.specs.Names.{name_in}
@@ -8,11 +10,8 @@ use Rattle.header.specs.declared.Header.{Header}
 use Rattle.header.specs.declared.kind.FieldKind.{FieldKind}
 use Rattle.header.specs.declared.kind.FieldKind.TheVariants as Kin
 use Rattle.header.specs.declared.field.Field.{Field}
-use Rattle.header.specs.declared.field.Field.TheVariants as Fie
-use Rattle.header.specs.declared.named.Name.{Name}
-use Rattle.header.specs.declared.named.Name.TheVariants as Nam
 use Rattle.numbers.specs.What.{short, long, date, number, logical, text, blob}
-use Rattle.numbers.specs.Lent.{cleared, in_front, room_first}
+use Rattle.numbers.specs.Lent.{given, room_first}
 
 -- ---- the header's 14 numbers
 
@@ -38,7 +37,7 @@ abbrev pub header_count : ℕ
 header_count = 14
 
 unfoldable pub header_numbers : List ℕ → List ℕ → ℕ × List ℕ
-header_numbers t lent = room_first t lent header_count (in_front lent (header_list (numbers_of t)))
+header_numbers t lent = given lent (room_first t (length lent) header_count (Ok (header_list (numbers_of t))))
 
 -- ---- a field's 6 numbers
 
@@ -56,22 +55,22 @@ abbrev pub field_count : ℕ
 field_count = 6
 
 -- by the name's place: code, kind, width, offset in the record, where the name begins, its length
-unfoldable pub named_field : List ℕ → ℕ → FieldKind → ℕ → ℕ → Name → ℕ × List ℕ
-named_field lent code kind width offset (Nam.At start len) =
-    in_front lent (code ∷ kind_number kind ∷ width ∷ offset ∷ start ∷ len ∷ [])
-named_field lent code kind width offset (Nam.Refused n) = cleared lent n
+unfoldable pub named_field : ℕ → Field → Result Part Refusal → Result (List ℕ) Refusal
+named_field code field (Ok name) =
+    Ok (code ∷ kind_number field.kind ∷ field.width ∷ field.offset ∷ name.start ∷ name.len ∷ [])
+named_field code field (Err refusal) = Err refusal
 
 -- 13 for no such field
-unfoldable pub field_given : List ℕ → ℕ → Field → Name → ℕ × List ℕ
-field_given lent code (Fie.Is kind width offset) name = named_field lent code kind width offset name
-field_given lent code Fie.Missing name = cleared lent bad_argument
+unfoldable pub field_given : ℕ → Option Field → Result Part Refusal → Result (List ℕ) Refusal
+field_given code (Some field) name = named_field code field name
+field_given code None name = Err BadArgument
 
 -- the type code that is stored for field f, counted from 1
 abbrev pub stored_code : List ℕ → Header → ℕ → ℕ
 stored_code t h f = code_at t h.area (f - 1)
 
-abbrev pub field_in : List ℕ → List ℕ → Header → ℕ → ℕ × List ℕ
-field_in t lent h f = field_given lent (stored_code t h f) (field_of t h f) (name_in t h f)
+abbrev pub field_in : List ℕ → Header → ℕ → Result (List ℕ) Refusal
+field_in t h f = field_given (stored_code t h f) (field_of t h f) (name_in t h f)
 
 unfoldable pub field_numbers : List ℕ → ℕ → List ℕ → ℕ × List ℕ
-field_numbers t f lent = room_first t lent field_count (field_in t lent (numbers_of t) f)
+field_numbers t f lent = given lent (room_first t (length lent) field_count (field_in t (numbers_of t) f))

@@ -1,12 +1,11 @@
 // A cursor as one number: started and stepped.
 ghost use Rattle.std.specs.Prelude.{◌≡◌, ◌≤◌, length};
-ghost use Rattle.header.specs.Refusals.{short_buffer};
-ghost use Rattle.header.specs.Answers.{header_first};
-ghost use Rattle.numbers.specs.Cursor.{cursor_in, cursor_number, start_given, start_lent, step_given, step_lent};
+ghost use Rattle.numbers.specs.Cursor.{cursor_in, cursor_number, put_step, start_answer, start_lent};
+ghost use Rattle.numbers.specs.Cursor.{step_answer, step_lent};
 
 use crate::lent;
 use cursor::{Cursor, Step};
-use header::refusal;
+use header::Refusal;
 
 // What the parts of a cursor's number are multiplied with: whether it stands on a record, block, place and moves.
 const STANDS: u64 = 0x100;
@@ -26,6 +25,7 @@ const FLAG: u64 = 0x100;
 const CAME: u32 = 0x100;
 
 // A cursor as one number. An ended one whose numbers are 0 is 0.
+#[tactic(auto, using(crate::proofs::CursorLaws::ended_number, crate::proofs::CursorLaws::standing_number))]
 fn pack(c: Cursor) -> u64
     ensures { result ≡ cursor_number c }
 {
@@ -48,21 +48,11 @@ fn unpack(n: u64) -> Cursor
     }
 }
 
-// What a call answers that was lent no number: 1 to 7, or 14.
-fn no_room(table: &[u8]) -> u8
-    ensures { result ≡ header_first table.now (λ n. n) short_buffer }
-{
-    let answer = header::read(table);
-    if answer.refusal != refusal::ACCEPTED {
-        return answer.refusal;
-    }
-    refusal::SHORT_BUFFER
-}
-
-// What stepping answers, with the cursor in front; refused, it stays.
-fn stepped(step: Step, cursor: &mut [u64]) -> u32
+// Puts the cursor of a step in front, and answers whether it stands on a record.
+#[tactic(auto, using(crate::proofs::CursorLaws::puts_record, crate::proofs::CursorLaws::puts_end))]
+fn put(cursor: &mut [u64], step: Step) -> u32
     requires { 1 ≤ length cursor.old }
-    ensures { (result, cursor.new) ≡ step_given cursor.old step }
+    ensures { (result, cursor.new) ≡ put_step cursor.old step }
 {
     match step {
         Step::Record(c) => {
@@ -73,39 +63,51 @@ fn stepped(step: Step, cursor: &mut [u64]) -> u32
             cursor[0] = pack(c);
             0
         }
-        Step::Refused(number, _) => number as u32,
     }
 }
 
-// What starting answers: as stepping does, but refused, every number becomes 0.
-fn started(step: Step, cursor: &mut [u64]) -> u32
-    requires { 1 ≤ length cursor.old }
-    ensures { (result, cursor.new) ≡ start_given cursor.old step }
+// The first step over any bytes, where there is room for a number; or 1 to 7, 14, then 8 or 9.
+fn start_answer(table: &[u8], room: usize) -> Result<Step, Refusal>
+    ensures { result ≡ start_answer table.now room }
 {
-    let Step::Refused(number, _) = step else {
-        return stepped(step, cursor);
-    };
-    lent::refuse(cursor, number) as u32
+    if room < 1 {
+        header::read(table)?;
+        return Err(Refusal::ShortBuffer);
+    }
+    Cursor::start(table).map_err(|refused| refused.refusal)
 }
 
-// Starts a cursor over any bytes: it stands on the first record, or has ended; or 1 to 7, 14, then 8 or 9.
+// The step of the cursor that the first number is; or 1 to 7, 14, 13, 9, 13, then 8 or 9.
+fn step_answer(table: &[u8], cursor: &[u64]) -> Result<Step, Refusal>
+    ensures { result ≡ step_answer table.now cursor.now }
+{
+    if cursor.is_empty() {
+        header::read(table)?;
+        return Err(Refusal::ShortBuffer);
+    }
+    unpack(cursor[0])
+        .step(table)
+        .map_err(|refused| refused.refusal)
+}
+
+// Starts a cursor over any bytes: it stands on the first record, or has ended; or 1 to 7, 14, then 8 or 9. Refused,
+// every number becomes 0.
 pub fn start(table: &[u8], cursor: &mut [u64]) -> u32
     ensures { (result, cursor.new) ≡ start_lent table.now cursor.old }
 {
-    if cursor.len() < 1 {
-        return no_room(table) as u32;
+    match start_answer(table, cursor.len()) {
+        Ok(step) => put(cursor, step),
+        Err(refusal) => u32::from(lent::refuse(cursor, refusal)),
     }
-    started(Cursor::start(table), cursor)
 }
 
 // Steps the cursor that the first number is: it stands on the next record, or has ended; or 1 to 7, 14, 13, 9, 13, then
-// 8 or 9.
+// 8 or 9. Refused, it stays.
 pub fn step(table: &[u8], cursor: &mut [u64]) -> u32
     ensures { (result, cursor.new) ≡ step_lent table.now cursor.old }
 {
-    if cursor.len() < 1 {
-        return no_room(table) as u32;
+    match step_answer(table, cursor) {
+        Ok(step) => put(cursor, step),
+        Err(refusal) => u32::from(u8::from(refusal)),
     }
-    let c = unpack(cursor[0]);
-    stepped(c.step(table), cursor)
 }

@@ -1,11 +1,10 @@
 // The numbers of a header and of a field.
-ghost use Rattle.std.specs.Prelude.{◌≡◌, ◌≤◌, length};
-ghost use Rattle.header.specs.Rules.{Accepted};
-ghost use Rattle.numbers.specs.Header.{field_count, field_in, field_numbers, header_list, header_numbers};
-ghost use Rattle.numbers.specs.Header.{kind_number};
+ghost use Rattle.std.specs.Prelude.{◌≡◌};
+ghost use Rattle.numbers.specs.Header.{field_in, field_numbers, header_list, header_numbers, kind_number};
+ghost use Rattle.numbers.specs.Steps.{field_answer, header_given};
 
 use crate::{lent, what};
-use header::{Field, FieldKind, Header, Name, refusal};
+use header::{FieldKind, Header, Refusal, Table};
 
 const HEADER_NUMBERS: usize = 14;
 
@@ -33,22 +32,24 @@ fn header_list(h: Header) -> [u64; 14]
     ]
 }
 
+// The header's numbers of any bytes, where there is room for them; or 1 to 7, 14.
+fn header_given(table: &[u8], room: usize) -> Result<[u64; 14], Refusal>
+    ensures { result ≡ header_given table.now room }
+{
+    let opened = lent::open(table, room, HEADER_NUMBERS)?;
+    Ok(header_list(opened.header))
+}
+
 // The header's numbers of any bytes; or 1 to 7, 14.
 pub fn of_header(table: &[u8], numbers: &mut [u64]) -> u8
     ensures { (result, numbers.new) ≡ header_numbers table.now numbers.old }
 {
-    let answer = header::read(table);
-    if answer.refusal != refusal::ACCEPTED {
-        return lent::refuse(numbers, answer.refusal);
-    }
-    if numbers.len() < HEADER_NUMBERS {
-        return lent::refuse(numbers, refusal::SHORT_BUFFER);
-    }
-    let h = answer.header;
-    lent::answer(numbers, &header_list(h))
+    let answer = header_given(table, numbers.len());
+    lent::give(numbers, answer)
 }
 
 // A kind by its number.
+#[tactic(auto, unfolding(crate::specs::Header::kind_number))]
 fn kind_number(kind: FieldKind) -> u64
     ensures { result ≡ kind_number kind }
 {
@@ -63,46 +64,35 @@ fn kind_number(kind: FieldKind) -> u64
     }
 }
 
-// The numbers of a field, counted from 1, of a table whose header is accepted; or 13.
-fn field_in(table: &[u8], h: Header, field: usize, numbers: &mut [u64]) -> u8
-    requires accepted { Accepted table.now h }
-    requires field_count_in_bounds { field_count ≤ length numbers.old }
-    ensures { (result, numbers.new) ≡ field_in table.now numbers.old h field }
+// The numbers of a field, counted from 1; or 13.
+fn field_in(table: &Table, field: usize) -> Result<[u64; 6], Refusal>
+    ensures { result ≡ field_in table.now.bytes.now table.now.header field }
 {
-    let Field::Is {
-        kind,
-        width,
-        offset,
-    } = header::field_of(table, h, field)
-    else {
-        return lent::refuse(numbers, refusal::BAD_ARGUMENT);
-    };
-    let Name::At { start, len } = header::name_in(table, h, field) else {
-        return lent::refuse(numbers, refusal::BAD_ARGUMENT);
-    };
-    let code = table[h.area as usize + 2 * (field - 1)];
-    let its = [
+    let found = table.field(field).ok_or(Refusal::BadArgument)?;
+    let name = table.name(field)?;
+    let code = table.bytes[table.header.area as usize + 2 * (field - 1)];
+    Ok([
         code as u64,
-        kind_number(kind),
-        width as u64,
-        offset as u64,
-        start as u64,
-        len as u64,
-    ];
-    lent::answer(numbers, &its)
+        kind_number(found.kind),
+        found.width as u64,
+        found.offset as u64,
+        name.start as u64,
+        name.len as u64,
+    ])
+}
+
+// The numbers of a field of any bytes, where there is room for them; or 1 to 7, 14, 13.
+fn field_answer(table: &[u8], field: usize, room: usize) -> Result<[u64; 6], Refusal>
+    ensures { result ≡ field_answer table.now field room }
+{
+    let opened = lent::open(table, room, FIELD_NUMBERS)?;
+    field_in(&opened, field)
 }
 
 // The numbers of a field of any bytes; or 1 to 7, 14, 13.
 pub fn of_field(table: &[u8], field: usize, numbers: &mut [u64]) -> u8
     ensures { (result, numbers.new) ≡ field_numbers table.now field numbers.old }
 {
-    let answer = header::read(table);
-    if answer.refusal != refusal::ACCEPTED {
-        return lent::refuse(numbers, answer.refusal);
-    }
-    if numbers.len() < FIELD_NUMBERS {
-        return lent::refuse(numbers, refusal::SHORT_BUFFER);
-    }
-    let h = answer.header;
-    field_in(table, h, field, numbers)
+    let answer = field_answer(table, field, numbers.len());
+    lent::give(numbers, answer)
 }

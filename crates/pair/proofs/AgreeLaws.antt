@@ -9,11 +9,13 @@ use native.Mathlib.Omega.{arith}
 use lib.Dec.{eqb}
 use lib.ListN.{length}
 use borrow.Author.Tests.{eqb-true}
+use Rattle.std.specs.Prelude.{Option, Some, None, Result, Ok}
 use Rattle.words.specs.Each.{each}
 use Rattle.words.specs.Order.{is_at_most, order}
 use Rattle.words.proofs.Conjunctions.{both}
 use Rattle.words.proofs.EachLaws.{each_last}
 use Rattle.header.specs.declared.Header.{Header}
+use Rattle.header.specs.declared.refusal.Refusal.{Refusal}
 use Rattle.blocks.specs.Shape.{shape_of}
 use Rattle.blocks.specs.declared.Shape.{Shape}
 use Rattle.chain.specs.Links.{used_of}
@@ -23,12 +25,9 @@ use Rattle.table.proofs.GoodChainLaws.{good_begins}
 use Rattle.table.proofs.UniqueLaws.{earlier_less}
 use Rattle.lookup.specs.Sought.{first_with}
 use Rattle.lookup.specs.declared.found.Found.{Found}
-use Rattle.lookup.specs.declared.found.Found.TheVariants.{Absent}
 use Rattle.index.specs.Entries.{entries_in, entry_key, entry_block, below}
-use Rattle.index.specs.Walk.{found_after, by_count, in_data, onward, walk_from, from_root, walk_tree}
+use Rattle.index.specs.Walk.{found_of, found_after, by_count, in_data, onward, walk_from, from_root, walk_tree}
 use Rattle.index.specs.declared.IndexHeader.{IndexHeader}
-use Rattle.index.specs.declared.entries.Below.{Below}
-use Rattle.index.specs.declared.entries.Below.TheVariants.{Block}
 use Rattle.pair.specs.Tree.{Entry, entry_at, key_right, fits, joined, leaves, tree_leaves, first_keys, same_entries}
 use Rattle.pair.specs.Pair.{empty_fits, root_fits, tree_fits}
 use Rattle.pair.proofs.RunLaws.{All, all_append, Ascends, ascends_takes, ascends_append, Starts, second_run}
@@ -36,13 +35,17 @@ use Rattle.pair.proofs.RunLaws.{first_run}
 use Rattle.pair.proofs.LeafLaws.{records_under, under_append, Leaf, under_first, first_leaves, leaves_start}
 use Rattle.pair.proofs.FitLaws.{entries_gives, fitting, under, entry_fits, block_fits}
 
+-- what was found, as an answer that is no refusal
+abbrev answered : Option Found → Result (Option Found) Refusal
+answered f = Ok f
+
 module _ (t : List ℕ) (g : Shape) (x : List ℕ) (gx : Shape) (key : List ℕ) where
   -- the key length
   abbrev n : ℕ
   n = length key
 
   -- the first record with the key, of the blocks that some entries name
-  abbrev found : List Entry → Found
+  abbrev found : List Entry → Option Found
   found es = first_with t g key (records_under t g es)
 
   -- ---- down from an entry whose block is at a level
@@ -52,7 +55,7 @@ module _ (t : List ℕ) (g : Shape) (x : List ℕ) (gx : Shape) (key : List ℕ)
   AgreesAt level e =
       (reads : ℕ) → fits x gx n level e.block ≡ true → All (Leaf t g n) (leaves x gx n level e)
       → Ascends t g n (records_under t g (leaves x gx n level e))
-      → (walk_from t g x gx key level e.block reads).found ≡ found (leaves x gx n level e)
+      → found_of (walk_from t g x gx key level e.block reads) ≡ answered (found (leaves x gx n level e))
 
   module _ (level b : ℕ) (ih : (e : Entry) → AgreesAt level e) (reads : ℕ) where
     -- the level 1 entries below the first i entries of index block b
@@ -60,19 +63,21 @@ module _ (t : List ℕ) (g : Shape) (x : List ℕ) (gx : Shape) (key : List ℕ)
     joins i = joined (under x gx n level b) i
 
     -- what the walk finds below the block that an entry names
-    abbrev onwards : Below → Found
+    abbrev onwards : Option ℕ → Result (Option Found) Refusal
     onwards w =
-        (onward w (found_after (reads + 1) Absent) (λ (next : ℕ). walk_from t g x gx key level next (reads + 1))).found
+        found_of
+        (onward w (found_after (reads + 1) None) (λ (next : ℕ). walk_from t g x gx key level next (reads + 1)))
 
     -- it finds the first record with the key below the first i entries
     agrees_joined : (i : ℕ) → each (fitting x gx n level b) i ≡ true → All (Leaf t g n) (joins i) →
-        Ascends t g n (records_under t g (joins i)) → onwards (below x gx key b i) ≡ found (joins i)
-    unfolding joined below onward found_after records_in first_with
+        Ascends t g n (records_under t g (joins i)) → onwards (below x gx key b i) ≡ answered (found (joins i))
+    unfolding joined below onward found_after found_of records_in first_with
     agrees_joined zero f h s = refl
     agrees_joined (suc i) f h s =
         go (is_at_most (order (entry_key x gx n b i) key)) refl
         (agrees_joined i (each_last (fitting x gx n level b) i f).0 parts.0 (ascends_append t g n us vs ascends).0)
-        ∙ ap (first_with t g key) (sym (under_append t g (joins i) (under x gx n level b i)))
+        ∙ ap (λ (ps : List Position). answered (first_with t g key ps))
+        (sym (under_append t g (joins i) (under x gx n level b i)))
       where
         us : List Position
         us = records_under t g (joins i)
@@ -80,7 +85,8 @@ module _ (t : List ℕ) (g : Shape) (x : List ℕ) (gx : Shape) (key : List ℕ)
         vs : List Position
         vs = records_under t g (under x gx n level b i)
 
-        entry : (fits x gx n level (entry_block x gx n b i) ≡ true) × (key_right x gx n level (entry_at x gx n b i) ≡ true)
+        entry : (fits x gx n level (entry_block x gx n b i) ≡ true)
+            × (key_right x gx n level (entry_at x gx n b i) ≡ true)
         entry = entry_fits x gx n level b i (each_last (fitting x gx n level b) i f).1
 
         parts : All (Leaf t g n) (joins i) × All (Leaf t g n) (under x gx n level b i)
@@ -93,18 +99,19 @@ module _ (t : List ℕ) (g : Shape) (x : List ℕ) (gx : Shape) (key : List ℕ)
         starts = leaves_start t g n x gx level (entry_at x gx n b i) entry.0 entry.1 parts.1
 
         go : (c : Bool) → is_at_most (order (entry_key x gx n b i) key) ≡ c →
-            onwards (below x gx key b i) ≡ first_with t g key us
-            → onwards (cond c (Block (entry_block x gx n b i)) (below x gx key b i)) ≡ first_with t g key (us ++ vs)
+            onwards (below x gx key b i) ≡ answered (first_with t g key us)
+            → onwards (cond c (Some (entry_block x gx n b i)) (below x gx key b i))
+            ≡ answered (first_with t g key (us ++ vs))
         go true e w =
             ih (entry_at x gx n b i) (reads + 1) entry.0 parts.1 (ascends_append t g n us vs ascends).1
-            ∙ sym (second_run t g key us vs (entry_key x gx n b i) ascends starts e)
-        go false e w = w ∙ sym (first_run t g key us vs (entry_key x gx n b i) ascends starts e)
+            ∙ ap answered (sym (second_run t g key us vs (entry_key x gx n b i) ascends starts e))
+        go false e w = w ∙ ap answered (sym (first_run t g key us vs (entry_key x gx n b i) ascends starts e))
 
   -- so it is at every level
   agrees : (level : ℕ) (e : Entry) → AgreesAt level e
-  unfolding leaves walk_from in_data by_count found_after records_in held
+  unfolding leaves walk_from in_data by_count found_after found_of records_in held
   agrees zero e reads f h s =
-      let w = h.0 in rw (w.here, w.counted) (ap (first_with t g key)
+      let w = h.0 in rw (w.here, w.counted) (ap (λ (ps : List Position). answered (first_with t g key ps))
       (sym (append-nil (places_from e.block 0 (suc w.others)))))
   agrees (suc level) e reads f h s =
       let p = block_fits x gx n level e.block f in
@@ -124,7 +131,8 @@ module _ (t : List ℕ) (h : Header) (x : List ℕ) (i : IndexHeader) (key : Lis
   ascending = rw size (ascends_takes t (shape_of h) h.key_length (records_of t h) (earlier_less t h a keyed))
 
   -- a root that is not 0
-  rooted : root_fits t h x i ≡ true → (from_root t (shape_of h) x i key).found ≡ first_with t (shape_of h) key (records_of t h)
+  rooted : root_fits t h x i ≡ true →
+      found_of (from_root t (shape_of h) x i key) ≡ answered (first_with t (shape_of h) key (records_of t h))
   unfolding root_fits
   rooted e =
       let g = shape_of h in
@@ -138,16 +146,18 @@ module _ (t : List ℕ) (h : Header) (x : List ℕ) (i : IndexHeader) (key : Lis
       (records_under t g) s ∙ under_first t g (length key) (used_of t h) in
       agrees t g x i.shape key i.levels root 0 (rw size p.0)
       (rw s (first_leaves t g (length key) h.first (used_of t h) (good_begins t h a))) (rw r ascending)
-      ∙ ap (first_with t g key) r
+      ∙ ap (λ (ps : List Position). answered (first_with t g key ps)) r
 
   -- any root
   pub walk_agrees : tree_fits t h x i ≡ true →
-      (walk_tree t (shape_of h) x i key).found ≡ first_with t (shape_of h) key (records_of t h)
-  unfolding tree_fits empty_fits walk_tree found_after first_with
+      found_of (walk_tree t (shape_of h) x i key) ≡ Ok (first_with t (shape_of h) key (records_of t h))
+  unfolding tree_fits empty_fits walk_tree found_after found_of first_with
   walk_agrees e = go (eqb i.root 0) e
     where
       go : (c : Bool) → cond c (empty_fits t h) (root_fits t h x i) ≡ true
-          → (cond c (found_after 0 Absent) (from_root t (shape_of h) x i key)).found ≡ first_with t (shape_of h) key
-          (records_of t h)
-      go true f = ap (first_with t (shape_of h) key) (sym (no_records (records_of t h) f))
+          → found_of (cond c (found_after 0 None) (from_root t (shape_of h) x i key))
+          ≡ answered (first_with t (shape_of h) key (records_of t h))
+      go true f =
+          ap (λ (ps : List Position). answered (first_with t (shape_of h) key ps))
+          (sym (no_records (records_of t h) f))
       go false f = rooted f

@@ -5,8 +5,11 @@ use mathlib.Core.Path.{◌≡◌, refl, sym, ap, ◌∙◌}
 use mathlib.Core.Bool.{Bool, true, false}
 use mathlib.Core.List.{List}
 use lib.ListN.{length}
+use Rattle.std.specs.Prelude.{Result, Err}
+use Rattle.header.specs.Refusals.{kept}
 use Rattle.header.specs.Numbers.{numbers_of}
 use Rattle.header.specs.declared.Header.{Header}
+use Rattle.header.specs.declared.refusal.Refusal.{Refusal}
 use Rattle.blocks.specs.Shape.{shape_of}
 use Rattle.table.specs.Table.{table_answer}
 use Rattle.table.proofs.RuleLaws.{header_kept, table_gives, table_takes, accepted_table}
@@ -16,8 +19,8 @@ use Rattle.lookup.proofs.KeyLaws.{fits_gives, fits_takes}
 use Rattle.scan.specs.Scan.{scan_of, scan_lookup}
 use Rattle.scan.proofs.ScanLaws.{scan_unfit, scan_first}
 use Rattle.scan.proofs.KeyLaws.{scan_finds}
-use Rattle.index.specs.Header.{index_of}
-use Rattle.index.specs.Walk.{refused_walk, walk_tree, walk_of, walk_key, walked_numbers, walk_numbers}
+use Rattle.index.specs.Header.{index_numbers}
+use Rattle.index.specs.Walk.{found_of, walk_tree, walk_of, walk_key, walked_numbers, walk_numbers}
 use Rattle.index.specs.declared.walking.Walked.{Walked}
 use Rattle.index.proofs.WalkLaws.{key_unfit, walk_tree_lem}
 use Rattle.pair.specs.Pair.{pair_answer}
@@ -27,7 +30,7 @@ use Rattle.pair.proofs.AgreeLaws.{walk_agrees}
 
 -- ---- an accepted pair, a table that the scan accepts with its own mark buffer, and a key of the key length
 
-module _ (t x key : List ℕ) (room room₂ : ℕ) (e : pair_answer t x room ≡ 0) (table : table_answer t room₂ ≡ 0)
+module _ (t x key : List ℕ) (room room₂ : ℕ) (e : pair_answer t x room ≡ kept) (table : table_answer t room₂ ≡ kept)
     (size : length key ≡ (numbers_of t).key_length) where
   abbrev h : Header
   h = numbers_of t
@@ -37,14 +40,15 @@ module _ (t x key : List ℕ) (room room₂ : ℕ) (e : pair_answer t x room ≡
   fits = fits_takes h key (pair_parts t x room e).1 size
 
   -- the walk goes down the tree
-  walks_tree : walk_of t x key ≡ walk_tree t (shape_of h) x (index_of x h.key_length) key
+  walks_tree : walk_of t x key ≡ walk_tree t (shape_of h) x (index_numbers x) key
   unfolding walk_of
-  walks_tree = header_kept t room₂ table refused_walk _ ∙ walk_tree_lem t x key fits (pair_parts t x room e).2
+  walks_tree =
+      header_kept t room₂ table Err _ ∙ walk_tree_lem t x key fits (index_numbers x) (pair_parts t x room e).2
 
   -- and comes to the first record with the key, as the scan does
-  walk_scans : (walk_of t x key).found ≡ scan_of t key room₂
+  walk_scans : found_of (walk_of t x key) ≡ scan_of t key room₂
   walk_scans =
-      rw walks_tree (walk_agrees t h x (index_of x h.key_length) key (accepted_table t room₂ table)
+      rw walks_tree (walk_agrees t h x (index_numbers x) key (accepted_table t room₂ table)
       (pair_parts t x room e).1 size (pair_parts t x room e).3)
       ∙ sym (scan_first t key room₂ table fits)
 
@@ -58,26 +62,28 @@ module _ (t x key : List ℕ) (room room₂ : ℕ) (e : pair_answer t x room ≡
       }
 
 -- a key of another length is 13 both ways; so for every key they find the same
-module _ (t x key : List ℕ) (room room₂ : ℕ) (e : pair_answer t x room ≡ 0) (table : table_answer t room₂ ≡ 0) where
-  any_key : (walk_of t x key).found ≡ scan_of t key room₂
-  unfolding walk_of refused_walk
+module _ (t x key : List ℕ) (room room₂ : ℕ) (e : pair_answer t x room ≡ kept)
+    (table : table_answer t room₂ ≡ kept) where
+  any_key : found_of (walk_of t x key) ≡ scan_of t key room₂
+  unfolding walk_of found_of
   any_key = go (key_fits (numbers_of t) key) refl
     where
-      go : (c : Bool) → key_fits (numbers_of t) key ≡ c → (walk_of t x key).found ≡ scan_of t key room₂
+      go : (c : Bool) → key_fits (numbers_of t) key ≡ c → found_of (walk_of t x key) ≡ scan_of t key room₂
       go true f = walk_scans t x key room room₂ e table (fits_gives (numbers_of t) key f).1
       go false f =
-          let unfit = header_kept t room₂ table refused_walk (walk_key t (numbers_of t) x key) ∙ key_unfit t x key f in
-          ap (λ (w : Walked). w.found) unfit ∙ sym (scan_unfit t key room₂ table f)
+          let unfit = header_kept t room₂ table Err (walk_key t (numbers_of t) x key) ∙ key_unfit t x key f in
+          ap found_of unfit ∙ sym (scan_unfit t key room₂ table f)
 
 -- ---- demand 3
 
-module _ (t x key : List ℕ) (room room₂ : ℕ) (e : pair_answer t x room ≡ 0) (l : (numbers_of t).blocks ≤ room₂) where
+module _ (t x key : List ℕ) (room room₂ : ℕ) (e : pair_answer t x room ≡ kept)
+    (l : (numbers_of t).blocks ≤ room₂) where
   -- the table is accepted with any mark buffer that has a byte for each block
-  again : table_answer t room₂ ≡ 0
+  again : table_answer t room₂ ≡ kept
   again = table_takes t room₂ (table_gives t room (pair_parts t x room e).0) l
 
   -- the walk finds what the scan finds, for any key
-  pub demand_3_found : (walk_of t x key).found ≡ scan_of t key room₂
+  pub demand_3_found : found_of (walk_of t x key) ≡ scan_of t key room₂
   demand_3_found = any_key t x key room room₂ e again
 
   -- the same by their numbers, and what they say of the records, for a key of the key length
@@ -87,7 +93,7 @@ module _ (t x key : List ℕ) (room room₂ : ℕ) (e : pair_answer t x room ≡
 
 -- ---- of the code: the answer w of the walk is what a key looked up in an accepted pair comes to
 
-pub both_ways : (t x key m : List ℕ) (w : Walked) → w ≡ walk_of t x key → Agreeing t x key m w
+pub both_ways : (t x key m : List ℕ) (w : Result Walked Refusal) → w ≡ walk_of t x key → Agreeing t x key m w
 unfolding walk_numbers walked_numbers
 both_ways t x key m w same e =
     let table = (pair_parts t x (length m) e).0 in

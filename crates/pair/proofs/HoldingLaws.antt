@@ -6,12 +6,13 @@ use mathlib.Core.List.{List, [], ◌∷◌}
 use native.Mathlib.Omega.{arith}
 use lib.Dec.{eqb-suc-zero}
 use borrow.Author.Tests.{eq-eqb, ne_eqb}
+use Rattle.std.specs.Prelude.{Some, None}
+use Rattle.words.proofs.Cases.{apart}
 use Rattle.blocks.specs.Counts.{count_in}
 use Rattle.blocks.specs.declared.Shape.{Shape}
-use Rattle.blocks.specs.declared.count.Count.TheVariants.{Records}
 use Rattle.chain.specs.Links.{next_of, blocks_from}
 use Rattle.chain.specs.Rules.{GoodChain, GoodFrom}
-use Rattle.chain.proofs.GoodChainLaws.{good_some, good_follows, from_none, from_some}
+use Rattle.chain.proofs.GoodChainLaws.{good_some, good_follows, from_none, from_some, from_block}
 use Rattle.table.specs.Records.{held}
 use Rattle.pair.specs.Tree.{first_entry, first_keys}
 use Rattle.pair.specs.Steps.{first_holding, holding_from}
@@ -23,7 +24,11 @@ module _ (t : List ℕ) (g : Shape) where
   unfolding first_holding
   holding_none b e c = ap (first_holding t g) (from_none t g b e c)
 
-  module _ (b : ℕ) (ne : b ≡ 0 → ⊥) (c : GoodFrom t g b) (n : ℕ) (e : count_in t g b ≡ Records n) where
+  -- no count of the chain is bad
+  pub holding_counted : (b : ℕ) → (b ≡ 0 → ⊥) → GoodFrom t g b → count_in t g b ≡ None → ⊥
+  holding_counted b ne c e = apart (cc (from_block t g b ne c).counted)
+
+  module _ (b : ℕ) (ne : b ≡ 0 → ⊥) (c : GoodFrom t g b) (n : ℕ) (e : count_in t g b ≡ Some n) where
     pub holding_here : (n ≡ 0 → ⊥) → holding_from t g b ≡ b
     unfolding first_holding held
     holding_here some = ap (first_holding t g) (from_some t g b ne c) ∙ rw (e, ne_eqb n 0 some)
@@ -39,7 +44,7 @@ module _ (t : List ℕ) (g : Shape) where
     pub low : 1 ≤ b
     pub high : b ≤ g.blocks
     pub others : ℕ
-    pub counted : count_in t g b ≡ Records (suc others)
+    pub counted : count_in t g b ≡ Some (suc others)
     pub onward : GoodFrom t g (next_of t g b)
 
   module _ (n : ℕ) where
@@ -56,7 +61,7 @@ module _ (t : List ℕ) (g : Shape) where
         let w = (good_some t g b x bs c).1 in
         go w.count w.counted (first_holding t g bs) refl (first_held (next_of t g x) bs w.onward)
       where
-        go : (m : ℕ) → count_in t g x ≡ Records m → (k : ℕ) → first_holding t g bs ≡ k → FirstHeld bs k →
+        go : (m : ℕ) → count_in t g x ≡ Some m → (k : ℕ) → first_holding t g bs ≡ k → FirstHeld bs k →
             FirstHeld (x ∷ bs) (first_holding t g (x ∷ bs))
         go zero e k r (none f) = rw (e, r) (none (rw e f))
         go zero e k r (some h f) = rw (e, r) (some h (rw e f))

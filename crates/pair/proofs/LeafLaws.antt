@@ -5,12 +5,12 @@ use mathlib.Core.Path.{◌≡◌, refl, sym, ap, ◌∙◌}
 use mathlib.Core.Bool.{true, false, cond, false≢true}
 use mathlib.Core.List.{List, [], ◌∷◌, ◌++◌, map, map-append}
 use lib.Dec.{eqb, eqb-suc-zero}
+use Rattle.std.specs.Prelude.{Some}
 use Rattle.words.specs.Each.{each}
 use Rattle.words.proofs.EachLaws.{each_last}
 use Rattle.blocks.specs.Shape.{has_block}
 use Rattle.blocks.specs.Counts.{count_in}
 use Rattle.blocks.specs.declared.Shape.{Shape}
-use Rattle.blocks.specs.declared.count.Count.TheVariants.{Records}
 use Rattle.blocks.proofs.ShapeLaws.{block_there}
 use Rattle.chain.specs.Links.{next_of}
 use Rattle.chain.specs.Rules.{GoodChain}
@@ -41,7 +41,7 @@ module _ (t : List ℕ) (g : Shape) where
     pub record Leaf (e : Entry) : Type 0 where
       pub here : has_block g e.block ≡ true
       pub others : ℕ
-      pub counted : count_in t g e.block ≡ Records (suc others)
+      pub counted : count_in t g e.block ≡ Some (suc others)
       pub first_key : e.key ≡ key_at t g n (record { block = e.block; place = 0 })
 
     -- what the level 1 entries are to be has all records: blocks without any add none
@@ -51,8 +51,8 @@ module _ (t : List ℕ) (g : Shape) where
     under_first (b ∷ bs) = go (held (count_in t g b)) refl (under_first bs)
       where
         go : (m : ℕ) → held (count_in t g b) ≡ m → records_under (first_keys t g n bs) ≡ records_in t g bs
-            → records_under (cond (eqb m 0) (first_keys t g n bs) (first_entry t g n b ∷ first_keys t g n bs)) ≡ places_from
-            b 0 m ++ records_in t g bs
+            → records_under (cond (eqb m 0) (first_keys t g n bs) (first_entry t g n b ∷ first_keys t g n bs))
+            ≡ places_from b 0 m ++ records_in t g bs
         go zero e ih = ih
         go (suc m) e ih = rw (eqb-suc-zero, e) (ap (λ (ps : List Position). places_from b 0 (suc m) ++ ps) ih)
 
@@ -64,7 +64,7 @@ module _ (t : List ℕ) (g : Shape) where
         let w = (good_some t g b x bs c).1 in go w.count w.counted (block_there g x w.low w.high)
         (first_leaves (next_of t g x) bs w.onward)
       where
-        go : (m : ℕ) → count_in t g x ≡ Records m → has_block g x ≡ true → All Leaf (first_keys t g n bs)
+        go : (m : ℕ) → count_in t g x ≡ Some m → has_block g x ≡ true → All Leaf (first_keys t g n bs)
             → All Leaf (cond (eqb (held (count_in t g x)) 0) (first_keys t g n bs)
             (first_entry t g n x ∷ first_keys t g n bs))
         go zero e i ih = rw e ih

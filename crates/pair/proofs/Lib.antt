@@ -8,6 +8,8 @@ pub mod AgreeLaws
 pub mod Demand
 pub mod HoldingLaws
 pub mod FollowLaws
+pub mod EntryLaws
 pub mod TreeLaws
+pub mod CheckLaws
 pub mod RefusalLaws
 pub mod LookedLaws

@@ -9,6 +9,9 @@ use native.Mathlib.Omega.{arith}
 use lib.Dec.{eqb}
 use lib.ListN.{length}
 use borrow.Author.Tests.{eqb-true, eqb-false}
+use Rattle.std.specs.Prelude.{Option, Some, None, Ok}
+use Rattle.words.proofs.Cases.{apart}
+use Rattle.header.specs.Refusals.{kept}
 use Rattle.header.specs.Header.{most_blocks}
 use Rattle.header.specs.Numbers.{numbers_of}
 use Rattle.header.specs.declared.Header.{Header}
@@ -19,26 +22,24 @@ use Rattle.chain.specs.Links.{next_of, blocks_from, used_of}
 use Rattle.chain.specs.Rules.{GoodFrom}
 use Rattle.table.specs.Records.{held}
 use Rattle.table.specs.Table.{table_answer}
+use Rattle.table.proofs.GoodChainLaws.{good_begins}
 use Rattle.table.proofs.RuleLaws.{accepted_table}
 use Rattle.index.specs.Header.{most_levels, index_of}
 use Rattle.index.specs.Entries.{entries_in}
 use Rattle.index.specs.declared.IndexHeader.{IndexHeader}
 use Rattle.index.proofs.AcceptedLaws.{accepted_index}
 use Rattle.pair.specs.Tree.{Entry, entry_at, first_entry, first_keys}
-use Rattle.pair.specs.Steps.{holding_from, is_expected, follow, entry_from, entry_from_at, block_from, Paired}
+use Rattle.pair.specs.Steps.{holding_from, is_expected, follow, entry_from, entry_from_at, block_from, Shapes}
+use Rattle.pair.specs.Steps.{Paired}
 use Rattle.pair.specs.Looked.{shapes_of, holders, looked_after, looked_from, every_entry, entries_at, entries_looked}
 use Rattle.pair.specs.Looked.{block_looked, entry_looked, entry_looked_at}
-use Rattle.pair.specs.declared.tree.Fit.{Fit}
-use Rattle.pair.specs.declared.tree.Fit.TheVariants.{Next, Unfit}
-use Rattle.pair.specs.declared.tree.Shapes.{Shapes}
 use Rattle.pair.proofs.HoldingLaws.{keys_next}
 use Rattle.pair.proofs.FollowLaws.{unexpected_end, follow_one, follow_none, up_to, up_to_none, up_to_suc}
 use Rattle.pair.proofs.FollowLaws.{up_to_stays, up_to_good, block_some, block_all, entry_leaf, entry_block_lem}
-use Rattle.pair.proofs.TreeLaws.{descendable}
 
 -- a part of a tree fits or does not
-unfit_next : {c : ℕ} {A : Type 0} → ◌≡◌ {A = Fit} Unfit (Next c) → A
-unfit_next e = let o : ◌≡◌ {A = ℕ} 0 1 = cc in absurd (omega arith)
+unfit_next : {c : ℕ} {A : Type 0} → ◌≡◌ {A = Option ℕ} None (Some c) → A
+unfit_next e = apart cc
 
 -- ---- the used blocks that hold records
 
@@ -71,7 +72,7 @@ module _ (t : List ℕ) (g : Shape) where
   left c = holders t g (blocks_from t g c)
 
   -- a level 1 entry that is expected passes one
-  leaf_passes : (n : ℕ) (e : Entry) (c d : ℕ) → GoodFrom t g c → follow t g n (e ∷ []) c ≡ Next d →
+  leaf_passes : (n : ℕ) (e : Entry) (c d : ℕ) → GoodFrom t g c → follow t g n (e ∷ []) c ≡ Some d →
       left c ≡ suc (left d)
   leaf_passes n e c d good f = go (eqb (holding_from t g c) 0) refl (is_expected t g n e c) refl
     where
@@ -80,7 +81,7 @@ module _ (t : List ℕ) (g : Shape) where
           unfit_next (sym (follow_none t g n e c (unexpected_end t g n e c (eqb-true (holding_from t g c) 0 z))) ∙ f)
       go false z false y = unfit_next (sym (follow_none t g n e c y) ∙ f)
       go false z true y =
-          let u : Next (next_of t g (holding_from t g c)) ≡ Next d = sym (follow_one t g n e c y) ∙ f in
+          let u : Some (next_of t g (holding_from t g c)) ≡ Some d = sym (follow_one t g n e c y) ∙ f in
           let k : next_of t g (holding_from t g c) ≡ d = cc in
           rw (← k) (sym (holders_keys n (blocks_from t g c))
           ∙ ap length (keys_next t g n c good (eqb-false (holding_from t g c) 0 z)).1
@@ -126,10 +127,10 @@ module _ (t x : List ℕ) (s : Shapes) (often : ℕ → ℕ) where
   -- what a part of a tree costs that is read where the chain is at number c: the entries looked at, each as often as
   -- it counts, and how often one entry of every level counts together. They are no more than that for each block left,
   -- and once more; where the part fits, for each block that it passes, and it passes one at least
-  record Cost (looked weight c : ℕ) (fit : Fit) : Type 0 where
+  record Cost (looked weight c : ℕ) (fit : Option ℕ) : Type 0 where
     most : looked ≤ weight * (left t g c + 1)
-    passes : (d : ℕ) → fit ≡ Next d → left t g d < left t g c
-    paid : (d : ℕ) → fit ≡ Next d → looked + weight * left t g d ≤ weight * left t g c
+    passes : (d : ℕ) → fit ≡ Some d → left t g d < left t g c
+    paid : (d : ℕ) → fit ≡ Some d → looked + weight * left t g d ≤ weight * left t g c
 
   -- ---- an entry whose block is at a level
 
@@ -147,23 +148,23 @@ module _ (t x : List ℕ) (s : Shapes) (often : ℕ → ℕ) where
       looked_from (λ (j d : ℕ). entry_counts level (entry_at x gx n b j) d) (entry_from_at t x s level b) i more c
 
   -- an entry that does not fit is the last
-  rest_unfit : (level b i more c : ℕ) → entry_from_at t x s level b i c ≡ Unfit →
+  rest_unfit : (level b i more c : ℕ) → entry_from_at t x s level b i c ≡ None →
       rest_looked level b i (suc more) c ≡ entry_counts level (entry_at x gx n b i) c
   unfolding looked_from looked_after
   rest_unfit level b i more c e = rw e (omega arith)
 
   -- after one that fits the others follow
-  rest_next : (level b i more c d : ℕ) → entry_from_at t x s level b i c ≡ Next d →
+  rest_next : (level b i more c d : ℕ) → entry_from_at t x s level b i c ≡ Some d →
       rest_looked level b i (suc more) c
       ≡ entry_counts level (entry_at x gx n b i) c + rest_looked level b (suc i) more d
   unfolding looked_from looked_after
   rest_next level b i more c d e = rw e
 
   -- what they cost, once the entries before i have fitted
-  record Rest (looked weight more c : ℕ) (whole : Fit) : Type 0 where
+  record Rest (looked weight more c : ℕ) (whole : Option ℕ) : Type 0 where
     most : looked ≤ weight * (left t g c + 1)
-    passes : (d : ℕ) → whole ≡ Next d → more + left t g d ≤ left t g c
-    paid : (d : ℕ) → whole ≡ Next d → looked + weight * left t g d ≤ weight * left t g c
+    passes : (d : ℕ) → whole ≡ Some d → more + left t g d ≤ left t g c
+    paid : (d : ℕ) → whole ≡ Some d → looked + weight * left t g d ≤ weight * left t g c
 
   module _ (level : ℕ) (each_cost : (e : Entry) (c : ℕ) → GoodFrom t g c → EntryCost level e c) (b from : ℕ)
       (good : GoodFrom t g from) where
@@ -171,7 +172,7 @@ module _ (t x : List ℕ) (s : Shapes) (often : ℕ → ℕ) where
     RestCost i more c =
         Rest (rest_looked level b i more c) (below often (suc level)) more c (up_to t x s level b (i + more) from)
 
-    rest_cost : (more i c : ℕ) → up_to t x s level b i from ≡ Next c → RestCost i more c
+    rest_cost : (more i c : ℕ) → up_to t x s level b i from ≡ Some c → RestCost i more c
     unfolding looked_from
     rest_cost zero i c u =
         let e : i + 0 ≡ i = omega arith in
@@ -181,16 +182,16 @@ module _ (t x : List ℕ) (s : Shapes) (often : ℕ → ℕ) where
           paid = λ d f. let k : c ≡ d = ended d (rw e at f) in rw k (omega arith);
         }
       where
-        ended : (d : ℕ) → up_to t x s level b i from ≡ Next d → c ≡ d
+        ended : (d : ℕ) → up_to t x s level b i from ≡ Some d → c ≡ d
         ended d f = cc
     rest_cost (suc more) i c u = go (entry_from_at t x s level b i c) refl (rest_cost more (suc i))
       where
         cost : EntryCost level (entry_at x gx n b i) c
         cost = each_cost (entry_at x gx n b i) c (up_to_good t x s level b i from c good u)
 
-        go : (f : Fit) → entry_from_at t x s level b i c ≡ f →
-            ((d : ℕ) → up_to t x s level b (suc i) from ≡ Next d → RestCost (suc i) more d) → RestCost i (suc more) c
-        go (Next d) e ih =
+        go : (f : Option ℕ) → entry_from_at t x s level b i c ≡ f →
+            ((d : ℕ) → up_to t x s level b (suc i) from ≡ Some d → RestCost (suc i) more d) → RestCost i (suc more) c
+        go (Some d) e ih =
             let r = ih d (up_to_suc t x s level b i from ∙ rw u e) in
             let k : suc i + more ≡ i + suc more = omega arith in
             let l = rest_next level b i more c d e in
@@ -199,7 +200,7 @@ module _ (t x : List ℕ) (s : Shapes) (often : ℕ → ℕ) where
               passes = λ m f. omega (arith, cost.passes d e, r.passes m (rw k f));
               paid = λ m f. omega (arith, l, cost.paid d e, r.paid m (rw k f));
             }
-        go Unfit e ih =
+        go None e ih =
             let k : suc i + more ≡ i + suc more = omega arith in
             let v = up_to_stays t x s level b (suc i) from (up_to_suc t x s level b i from ∙ rw u e) more in
             record {
@@ -222,8 +223,8 @@ module _ (t x : List ℕ) (s : Shapes) (often : ℕ → ℕ) where
           paid = λ d f. r.paid d (fitted d f);
         }
       where
-        fitted : (d : ℕ) → block_from t x s (suc level) b from ≡ Next d →
-            up_to t x s level b (0 + entries_in x gx b) from ≡ Next d
+        fitted : (d : ℕ) → block_from t x s (suc level) b from ≡ Some d →
+            up_to t x s level b (0 + entries_in x gx b) from ≡ Some d
         fitted d f =
             let k : 0 + entries_in x gx b ≡ entries_in x gx b = omega arith in rw k (block_all t x s level b from d f)
 
@@ -239,7 +240,7 @@ module _ (t x : List ℕ) (s : Shapes) (often : ℕ → ℕ) where
         paid = λ d f. omega (arith, mul-le-mul_left (often 0) (le_of_eq (sym (one d f))));
       }
     where
-      one : (d : ℕ) → entry_from t x s 0 e c ≡ Next d → left t g c ≡ suc (left t g d)
+      one : (d : ℕ) → entry_from t x s 0 e c ≡ Some d → left t g c ≡ suc (left t g d)
       one d f = leaf_passes t g n e c d good (sym (entry_leaf t x s 0 e c refl) ∙ f)
 
   entry_costs : (level : ℕ) (e : Entry) (c : ℕ) → GoodFrom t g c → EntryCost level e c
@@ -312,14 +313,14 @@ module _ (t x : List ℕ) (s : Shapes) where
     -- entry i
     module _ (i c entries looked : ℕ) (j : i < m) (e : CountedSoFar level b from m i c entries)
         (k : looked ≡ entry_looked_at t x s (level - 1) b i c) where
-      pub counted_turn : (d : ℕ) → entry_from_at t x s (level - 1) b i c ≡ Next d →
+      pub counted_turn : (d : ℕ) → entry_from_at t x s (level - 1) b i c ≡ Some d →
           CountedSoFar level b from m (i + 1) d (entries + looked)
       counted_turn d f =
           let p : m - i ≡ suc (m - (i + 1)) = omega arith in
           let q : suc i ≡ i + 1 = omega arith in
           omega (arith, rw p at e, rw q at (rest_next t x s every_entry (level - 1) b i (m - (i + 1)) c d f))
 
-      pub counted_refused : entry_from_at t x s (level - 1) b i c ≡ Unfit →
+      pub counted_refused : entry_from_at t x s (level - 1) b i c ≡ None →
           entries + looked ≡ block_looked t x s level b from
       counted_refused f =
           let p : m - i ≡ suc (m - (i + 1)) = omega arith in
@@ -328,25 +329,24 @@ module _ (t x : List ℕ) (s : Shapes) where
       pub counted_within : entries + looked ≤ block_looked t x s level b from
       counted_within = go (entry_from_at t x s (level - 1) b i c) refl
         where
-          go : (f : Fit) → entry_from_at t x s (level - 1) b i c ≡ f → entries + looked ≤ block_looked t x s level b from
-          go (Next d) f = omega (arith, counted_turn d f)
-          go Unfit f = omega (arith, counted_refused f)
+          go : (f : Option ℕ) → entry_from_at t x s (level - 1) b i c ≡ f →
+              entries + looked ≤ block_looked t x s level b from
+          go (Some d) f = omega (arith, counted_turn d f)
+          go None f = omega (arith, counted_refused f)
 
 -- ---- the whole check: a table that is accepted, and an index whose header is accepted for the table's key length
 
-module _ (t x : List ℕ) (room : ℕ) (e : table_answer t room ≡ 0)
-    (f : (index_of x (numbers_of t).key_length).refusal ≡ 0) where
+module _ (t x : List ℕ) (room : ℕ) (e : table_answer t room ≡ kept)
+    (i : IndexHeader) (f : index_of x (numbers_of t).key_length ≡ Ok i) where
   abbrev h : Header
   h = numbers_of t
 
-  abbrev i : IndexHeader
-  i = index_of x h.key_length
-
   paired : Paired t h x i
-  paired = record { table = accepted_table t room e; index = accepted_index x h.key_length f }
+  paired = record { table = accepted_table t room e; index = accepted_index x h.key_length i f }
 
   good : GoodFrom t (shape_of h) h.first
-  good = (descendable t h x i paired (shape_of h) refl).followed.chain
+  unfolding shape_of
+  good = good_begins t h paired.table
 
   -- of the entries at each level no more are looked at than there are used blocks that hold records, and one
   pub level_entries_most : (k : ℕ) → entries_looked t x (shapes_of h i) (entries_at k) i.levels i.root h.first

@@ -6,16 +6,15 @@ use mathlib.Core.Bool.{Bool, true, false}
 use mathlib.Core.List.{List, [], ◌∷◌, ◌++◌}
 use native.Mathlib.Omega.{arith}
 use lib.ListN.{length, get_or}
+use Rattle.std.specs.Prelude.{is_some, None}
 use Rattle.words.specs.Order.{is_at_most, order}
-use Rattle.words.specs.declared.Order.TheVariants.{Less}
+use Rattle.std.specs.declared.cmp.Ordering.TheVariants.{Less}
 use Rattle.words.proofs.OrderLaws.{less≢same, at_most, order_refl, same_gives, turned, order_turned, above_less}
 use Rattle.words.proofs.OrderLaws.{less_trans}
 use Rattle.blocks.specs.declared.Shape.{Shape}
 use Rattle.table.specs.Records.{Position}
 use Rattle.table.specs.Keys.{key_at}
-use Rattle.lookup.specs.Found.{is_record}
 use Rattle.lookup.specs.Sought.{is_sought, first_with}
-use Rattle.lookup.specs.declared.found.Found.TheVariants.{Absent}
 use Rattle.lookup.proofs.FirstLaws.{first_miss}
 
 -- ---- a property of every element of a list
@@ -33,7 +32,8 @@ all_map P Q [] f h = tt
 all_map P Q (a ∷ us) f h = (f a h.0, all_map P Q us f h.1)
 
 -- it is the property of what stands at each index
-all_takes : {A : Type 0} (P : A → Type 0) (us : List A) → ((i : ℕ) (d : A) → i < length us → P (get_or us i d)) → All P us
+all_takes : {A : Type 0} (P : A → Type 0) (us : List A) → ((i : ℕ) (d : A) → i < length us → P (get_or us i d)) →
+    All P us
 all_takes P [] h = tt
 all_takes P (a ∷ us) h = (h 0 a (omega arith), all_takes P us (λ i d l. h (suc i) d (suc-le-suc l)))
 
@@ -99,13 +99,13 @@ module _ (t : List ℕ) (g : Shape) (key : List ℕ) where
       go false e = e
 
   -- where every record has another key, the key is absent
-  others_absent : (ps : List Position) → All Other ps → first_with t g key ps ≡ Absent
+  others_absent : (ps : List Position) → All Other ps → first_with t g key ps ≡ None
   unfolding first_with
   others_absent [] h = refl
   others_absent (p ∷ ps) h = rw (not_sought p h.0) (others_absent ps h.1)
 
   -- where the key is absent from the second run, the first one decides
-  rest_absent : (us vs : List Position) → first_with t g key vs ≡ Absent →
+  rest_absent : (us vs : List Position) → first_with t g key vs ≡ None →
       first_with t g key (us ++ vs) ≡ first_with t g key us
   unfolding first_with
   rest_absent [] vs e = e
@@ -129,9 +129,8 @@ module _ (t : List ℕ) (g : Shape) (key : List ℕ) where
 
     -- the second run decides from its first key on
     pub second_run : is_at_most (order f key) ≡ true → first_with t g key (us ++ vs) ≡ first_with t g key vs
-    unfolding is_record
     second_run m =
-        first_miss t g key vs us (ap is_record (others_absent us
+        first_miss t g key vs us (ap is_some (others_absent us
         (all_map (λ (a : Position). All (Before t g (length key) a) vs) Other us other
         (ascends_append t g (length key) us vs ascends).2)))
       where

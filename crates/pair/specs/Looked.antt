@@ -1,6 +1,6 @@
 -- How many entries of an index are looked at when its tree is read along with the used chain, left to right, and given
 -- up at the first fault. No rule is stated here. Definitions only.
-use Rattle.std.specs.Prelude.{ℕ, zero, suc, ◌+◌, cond, List, [], ◌∷◌, eqb}
+use Rattle.std.specs.Prelude.{ℕ, zero, suc, ◌+◌, cond, List, [], ◌∷◌, eqb, Option, Some, None}
 use Rattle.header.specs.declared.Header.{Header}
 use Rattle.blocks.specs.Shape.{shape_of}
 use Rattle.blocks.specs.Counts.{count_in}
@@ -9,10 +9,8 @@ use Rattle.table.specs.Records.{held}
 use Rattle.index.specs.Entries.{entries_in, entry_block}
 use Rattle.index.specs.declared.IndexHeader.{IndexHeader}
 use Rattle.pair.specs.Tree.{Entry, entry_at}
-use Rattle.pair.specs.Steps.{entry_from_at}
-use Rattle.pair.specs.declared.tree.Fit.{Fit}
-use Rattle.pair.specs.declared.tree.Fit.TheVariants.{Next, Unfit}
-use Rattle.pair.specs.declared.tree.Shapes.{Shapes}
+use Rattle.pair.specs.Steps.{Shapes, entry_from_at, shapes_in}
+use Rattle.pair.specs.declared.tree.Pair.{Pair}
 
 -- the shapes of a table and its index, by their headers
 abbrev pub shapes_of : Header → IndexHeader → Shapes
@@ -25,13 +23,13 @@ holders t g (b ∷ bs) = cond (eqb (held (count_in t g b)) 0) (holders t g bs) (
 
 -- what is looked at behind a part of a tree: with the chain at the number where the part leaves it, or nothing where
 -- the part does not fit
-unfoldable pub looked_after : Fit → (ℕ → ℕ) → ℕ
-looked_after (Next c) looked = looked c
-looked_after Unfit looked = 0
+unfoldable pub looked_after : Option ℕ → (ℕ → ℕ) → ℕ
+looked_after (Some c) looked = looked c
+looked_after None looked = 0
 
 -- of so many entries from number i on, where the chain is at number c: what each looks at, with the chain where the one
 -- before left it, up to the first that does not fit
-unfoldable pub looked_from : (ℕ → ℕ → ℕ) → (ℕ → ℕ → Fit) → ℕ → ℕ → ℕ → ℕ
+unfoldable pub looked_from : (ℕ → ℕ → ℕ) → (ℕ → ℕ → Option ℕ) → ℕ → ℕ → ℕ → ℕ
 looked_from looked fit i zero c = 0
 looked_from looked fit i (suc more) c =
     looked i c + looked_after (fit i c) (λ (d : ℕ). looked_from looked fit (suc i) more d)
@@ -65,3 +63,11 @@ module _ (t x : List ℕ) (s : Shapes) where
   -- the same of entry i of index block b
   abbrev pub entry_looked_at : ℕ → ℕ → ℕ → ℕ → ℕ
   entry_looked_at level b i c = entry_looked level (entry_at x s.index s.key_length b i) c
+
+-- ---- the same in the files of a pair
+
+abbrev pub block_looked_of : Pair → ℕ → ℕ → ℕ → ℕ
+block_looked_of p level b c = block_looked p.table.bytes.now p.index.bytes.now (shapes_in p) level b c
+
+abbrev pub entry_looked_of : Pair → ℕ → ℕ → ℕ → ℕ → ℕ
+entry_looked_of p level b i c = entry_looked_at p.table.bytes.now p.index.bytes.now (shapes_in p) level b i c

@@ -1,7 +1,9 @@
 -- The pair rules as plain propositions, and what demand 3 asks of the two lookups. Definitions only.
-use Rattle.std.specs.Prelude.{ℕ, zero, suc, ◌≤◌, ◌<◌, ◌≡◌, List, [], ◌∷◌, length}
+use Rattle.std.specs.Prelude.{ℕ, zero, suc, ◌≤◌, ◌<◌, ◌≡◌, List, [], ◌∷◌, length, Result}
+use Rattle.header.specs.Refusals.{kept}
 use Rattle.header.specs.Numbers.{numbers_of}
 use Rattle.header.specs.declared.Header.{Header}
+use Rattle.header.specs.declared.refusal.Refusal.{Refusal}
 use Rattle.blocks.specs.Shape.{shape_of}
 use Rattle.blocks.specs.Rules.{BlockHolds}
 use Rattle.blocks.specs.declared.Shape.{Shape}
@@ -13,7 +15,7 @@ use Rattle.scan.specs.Scan.{scan_of, scan_lookup}
 use Rattle.index.specs.Header.{index_numbers}
 use Rattle.index.specs.Entries.{entry_key}
 use Rattle.index.specs.Rules.{IndexRules}
-use Rattle.index.specs.Walk.{walk_of}
+use Rattle.index.specs.Walk.{walk_of, found_of}
 use Rattle.index.specs.declared.IndexHeader.{IndexHeader}
 use Rattle.index.specs.declared.walking.Walked.{Walked}
 use Rattle.pair.specs.Tree.{Entry, entry_at, joined, root_entry, first_entry}
@@ -91,12 +93,12 @@ pub record Agreement (t : List ℕ) (h : Header) (key : List ℕ) (walked scanne
 
 -- what looking a key up in an accepted pair answers: both ways give it, whatever the key's length, with the index
 -- blocks that the walk reads. A key of the table's key length is found or absent as the records say
-pub record BothWays (t x key : List ℕ) (room : ℕ) (r : Walked) : Type 0 where
+pub record BothWays (t x key : List ℕ) (room : ℕ) (r : Result Walked Refusal) : Type 0 where
   pub walked : walk_of t x key ≡ r
-  pub scanned : scan_of t key room ≡ r.found
+  pub scanned : scan_of t key room ≡ found_of r
   pub agreed : length key ≡ (numbers_of t).key_length →
-      Agreement t (numbers_of t) key (lookup_of r.found) (scan_lookup t key room)
+      Agreement t (numbers_of t) key (lookup_of (found_of r)) (scan_lookup t key room)
 
 -- the answer r where the pair is accepted with the mark buffer m
-abbrev pub Agreeing : List ℕ → List ℕ → List ℕ → List ℕ → Walked → Type 0
-Agreeing t x key m r = pair_answer t x (length m) ≡ 0 → BothWays t x key (length m) r
+abbrev pub Agreeing : List ℕ → List ℕ → List ℕ → List ℕ → Result Walked Refusal → Type 0
+Agreeing t x key m r = pair_answer t x (length m) ≡ kept → BothWays t x key (length m) r

@@ -1,21 +1,18 @@
 -- What the functions that go down a tree ask and answer. No rule is stated here. Definitions only.
-use Rattle.std.specs.Prelude.{ℕ, ◌≤◌, Bool, cond, not, ◌&&◌, List, [], ◌∷◌, eqb}
+use Rattle.std.specs.Prelude.{ℕ, ◌+◌, ◌<◌, ◌≤◌, ◌≡◌, Bool, cond, not, ◌&&◌, List, [], ◌∷◌, eqb, Option, Some, None}
 use Rattle.words.specs.Order.{is_same, order, range}
 use Rattle.header.specs.declared.Header.{Header}
-use Rattle.blocks.specs.Shape.{Sound}
 use Rattle.blocks.specs.Counts.{count_in}
 use Rattle.blocks.specs.declared.Shape.{Shape}
 use Rattle.chain.specs.Links.{next_of, blocks_from}
 use Rattle.chain.specs.Rules.{GoodFrom}
 use Rattle.table.specs.Records.{held}
 use Rattle.table.specs.Rules.{AcceptedTable}
+use Rattle.index.specs.Header.{entry_numbers}
 use Rattle.index.specs.Rules.{AcceptedIndex}
-use Rattle.index.specs.Entries.{EntriesInside}
 use Rattle.index.specs.declared.IndexHeader.{IndexHeader}
 use Rattle.pair.specs.Tree.{Entry, entry_at, key_right, fits, leaves, tree_leaves, first_entry}
-use Rattle.pair.specs.declared.tree.Fit.{Fit}
-use Rattle.pair.specs.declared.tree.Fit.TheVariants.{Next, Unfit}
-use Rattle.pair.specs.declared.tree.Shapes.{Shapes}
+use Rattle.pair.specs.declared.tree.Pair.{Pair}
 
 -- ---- the used blocks that hold records, one after another
 
@@ -36,45 +33,62 @@ is_expected t g n e c =
     && eqb e.block (holding_from t g c)
     && is_same (order e.key (first_entry t g n (holding_from t g c)).key)
 
--- level 1 entries that are expected one after another: where the chain is after them
-unfoldable pub follow : List ℕ → Shape → ℕ → List Entry → ℕ → Fit
-follow t g n [] c = Next c
-follow t g n (e ∷ es) c = cond (is_expected t g n e c) (follow t g n es (next_of t g (holding_from t g c))) Unfit
-
--- what following a chain asks, from number c on
-pub record Followed (t : List ℕ) (g : Shape) (c : ℕ) : Type 0 where
-  pub sound : Sound t g
-  pub chain : GoodFrom t g c
+-- level 1 entries that are expected one after another: where the chain is after them; None where one is not expected
+unfoldable pub follow : List ℕ → Shape → ℕ → List Entry → ℕ → Option ℕ
+follow t g n [] c = Some c
+follow t g n (e ∷ es) c = cond (is_expected t g n e c) (follow t g n es (next_of t g (holding_from t g c))) None
 
 -- ---- down the tree
 
+-- the shapes of a table and its index, and the key length
+pub record Shapes : Type 0 where
+  pub table : Shape
+  pub index : Shape
+  pub key_length : ℕ
+
 module _ (t x : List ℕ) (s : Shapes) where
   -- an entry whose block is at a level: it fits, and its level 1 entries are the next ones expected
-  unfoldable pub entry_from : ℕ → Entry → ℕ → Fit
+  unfoldable pub entry_from : ℕ → Entry → ℕ → Option ℕ
   entry_from level e c =
       cond (fits x s.index s.key_length level e.block && key_right x s.index s.key_length level e)
-      (follow t s.table s.key_length (leaves x s.index s.key_length level e) c) Unfit
+      (follow t s.table s.key_length (leaves x s.index s.key_length level e) c) None
 
   -- the same of entry i of index block b
-  abbrev pub entry_from_at : ℕ → ℕ → ℕ → ℕ → Fit
+  abbrev pub entry_from_at : ℕ → ℕ → ℕ → ℕ → Option ℕ
   entry_from_at level b i c = entry_from level (entry_at x s.index s.key_length b i) c
 
   -- an index block at a level: the same
-  unfoldable pub block_from : ℕ → ℕ → ℕ → Fit
+  unfoldable pub block_from : ℕ → ℕ → ℕ → Option ℕ
   block_from level b c =
       cond (fits x s.index s.key_length level b)
-      (follow t s.table s.key_length (tree_leaves x s.index s.key_length level b) c) Unfit
+      (follow t s.table s.key_length (tree_leaves x s.index s.key_length level b) c) None
 
   -- a level 1 entry, whose key stands at an offset and which names a block
-  abbrev pub leaf_from : ℕ → ℕ → ℕ → Fit
+  abbrev pub leaf_from : ℕ → ℕ → ℕ → Option ℕ
   leaf_from at named c =
       follow t s.table s.key_length (record { key = range x at s.key_length; block = named } ∷ []) c
 
-  -- what going down a tree asks, where the chain of the table is at number c
-  pub record Descendable (c : ℕ) : Type 0 where
-    pub followed : Followed t s.table c
-    pub short : s.key_length ≤ s.table.record_size
-    pub entries : EntriesInside x s.index s.key_length
+-- ---- the same in the files of a pair
+
+abbrev pub shapes_in : Pair → Shapes
+shapes_in p = record { table = p.table.shape; index = p.index.shape; key_length = p.key_length }
+
+abbrev pub entry_of : Pair → ℕ → ℕ → ℕ → ℕ → Option ℕ
+entry_of p level b i c = entry_from_at p.table.bytes.now p.index.bytes.now (shapes_in p) level b i c
+
+abbrev pub block_of : Pair → ℕ → ℕ → ℕ → Option ℕ
+block_of p level b c = block_from p.table.bytes.now p.index.bytes.now (shapes_in p) level b c
+
+abbrev pub leaf_of : Pair → ℕ → ℕ → ℕ → Option ℕ
+leaf_of p at named c = leaf_from p.table.bytes.now p.index.bytes.now (shapes_in p) at named c
+
+-- what going down a tree asks, where the chain of the table is at number c: that chain is good, the table has no more
+-- blocks than is allowed, and a key is no longer than a record and, with its numbers, an entry
+pub record Descendable (p : Pair) (c : ℕ) : Type 0 where
+  pub chain : GoodFrom p.table.bytes.now p.table.shape c
+  pub few : p.table.shape.blocks < 65536
+  pub short : p.key_length ≤ p.table.shape.record_size
+  pub size : p.index.shape.record_size ≡ p.key_length + entry_numbers
 
 -- what judging a tree asks: an accepted table, and an index that is accepted for its key length
 pub record Paired (t : List ℕ) (h : Header) (x : List ℕ) (i : IndexHeader) : Type 0 where

@@ -2,94 +2,96 @@
 // ` !13` for refusal 13; a walk's has the index blocks read behind it, ` 4.1/2`. Lookups show the three of them,
 // ` 0:4.1/2:4.1`. The marks are shown whole, lent or not.
 use crate::files::{MARKS, index, key, table};
+use header::Refusal;
 use index::Walked;
 use lookup::Found;
 use test_lines::lines::{Buffer, Line};
-use test_lines::print::{bytes, letter, number};
+use test_lines::print::{bytes, letter, number, refused, verdict};
 
-fn show(found: Found) {
+fn show(found: Result<Option<Found>, Refusal>) {
     match found {
-        Found::At { block, place } => {
-            number(block);
+        Ok(Some(found)) => {
+            number(found.block);
             letter(b'.');
-            number(place);
+            number(found.place);
         }
-        Found::Absent => letter(b'-'),
-        Found::Refused(n) => {
-            letter(b'!');
-            number(n as u16);
-        }
+        Ok(None) => letter(b'-'),
+        Err(refusal) => refused(refusal),
     }
 }
 
-fn show_walk(walked: Walked) {
-    let found = walked.found;
-    show(found);
+// How many index blocks a walk has read; a refused one counts none.
+pub fn reads(walk: Result<Walked, Refusal>) -> u8 {
+    match walk {
+        Ok(walked) => walked.reads,
+        Err(_) => 0,
+    }
+}
+
+fn show_walk(walk: Result<Walked, Refusal>) {
+    match walk {
+        Ok(walked) => show(Ok(walked.found)),
+        Err(refusal) => refused(refusal),
+    }
     letter(b'/');
-    number(walked.reads as u16);
+    number(reads(walk));
+}
+
+// 0, or the refusal's number.
+fn show_check(pair: Result<(), Refusal>) {
+    letter(b' ');
+    verdict(pair);
 }
 
 // The pair check's answer, and a key looked up both ways.
 #[derive(Clone, Copy)]
 pub struct Lookups {
-    pub pair: u8,
-    pub walk: Walked,
-    pub scan: Found,
+    pub pair: Result<(), Refusal>,
+    pub walk: Result<Walked, Refusal>,
+    pub scan: Result<Option<Found>, Refusal>,
 }
 
+// The walk is that of looking the key up in the pair, where the pair is accepted.
 pub fn look_up(table: &[u8], index: &[u8], key: &[u8], marks: &mut [u8]) -> Lookups {
     let both = pair::look_up(table, index, key, marks);
     let pair = pair::check(table, index, marks);
-    let walk = walked(table, index, key, pair, both);
+    let walk = match pair {
+        Ok(()) => both,
+        Err(_) => index::walk(table, index, key),
+    };
     let scan = scan::find(table, key, marks);
     Lookups { pair, walk, scan }
 }
 
-// The walk's answer: of a pair that is accepted, what looking the key up in the pair answered.
-fn walked(table: &[u8], index: &[u8], key: &[u8], pair: u8, both: Walked) -> Walked {
-    if pair == 0 {
-        return both;
-    }
-    index::walk(table, index, key)
-}
-
 pub fn show_lookups(lookups: Lookups) {
-    let walk = lookups.walk;
-    let scan = lookups.scan;
-    letter(b' ');
-    number(lookups.pair as u16);
+    show_check(lookups.pair);
     letter(b':');
-    show_walk(walk);
+    show_walk(lookups.walk);
     letter(b':');
-    show(scan);
+    show(lookups.scan);
 }
 
 // Shows what a command asks for.
-fn ask(table: &[u8], index: &[u8], key: &[u8], marks: &mut [u8], command: u8) {
+fn ask(table: &[u8], index: &[u8], key: &[u8], marks: &mut [u8], command: Option<u8>) {
     match command {
-        b'w' => {
+        Some(b'w') => {
             letter(b' ');
             show_walk(index::walk(table, index, key));
         }
-        b's' => {
+        Some(b's') => {
             letter(b' ');
             show(scan::find(table, key, marks));
         }
-        b'l' | b'h' => show_lookups(look_up(table, index, key, marks)),
-        _ => {
-            letter(b' ');
-            number(pair::check(table, index, marks) as u16);
-        }
+        Some(b'l' | b'h') => show_lookups(look_up(table, index, key, marks)),
+        _ => show_check(pair::check(table, index, marks)),
     }
 }
 
 // Asks with the first marks lent. More marks than there are cannot be lent.
 fn lend(table: &[u8], index: &[u8], key: &[u8], marks: &mut [u8], line: Line) {
-    let most = line.marks;
-    if marks.len() < most {
-        return;
+    if let Some(lent) = marks.get_mut(..line.marks) {
+        ask(table, index, key, lent, line.command);
     }
-    ask(table, index, key, &mut marks[..most], line.command);
 }
 
 fn show_marks(marks: &[u8; MARKS]) {
@@ -107,8 +109,7 @@ pub fn answer(t: &Buffer, line: Line) {
         &mut marks,
         line,
     );
-    let command = line.command;
-    if (command == b'!') | (command == b'h') {
+    if matches!(line.command, Some(b'!' | b'h')) {
         show_marks(&marks);
     }
 }

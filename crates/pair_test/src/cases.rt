@@ -9,72 +9,52 @@ use crate::answers::answer;
 use crate::every::every;
 use crate::files::{KEY, MARKS};
 use test_lines::after::after;
-use test_lines::lines::{Buffer, CASE, Line, SIZE, end, fresh, stays, step};
+use test_lines::cases::Cases;
+use test_lines::lines::{Buffer, Line};
 
-// The lengths that lines with `>` have set.
-#[derive(Clone, Copy)]
-struct Lent {
+// What this program does with its cases: the lengths are those that lines with `>` have set.
+#[derive(Drop)]
+pub struct Pairs {
     table: usize,
     index: usize,
 }
 
-// A new line, with the lengths that stay and all marks lent.
-fn ready(lent: Lent) -> Line {
-    let mut l = fresh();
-    l.marks = MARKS;
-    l.long = lent.table;
-    l.index = lent.index;
-    l
-}
-
-// The lengths after a byte: a line whose changes stay hands them on at its end.
-fn kept(line: Line, lent: Lent, b: u8) -> Lent {
-    if (b == b'\n') & stays(line) {
-        return Lent {
-            table: line.long,
-            index: line.index,
-        };
+impl Pairs {
+    // Nothing is lent at first.
+    pub fn new() -> Pairs {
+        Pairs { table: 0, index: 0 }
     }
-    lent
 }
 
-// Takes a byte of the cases.
-fn feed(t: &mut Buffer, first: &mut Buffer, line: Line, lent: Lent, b: u8) -> Line {
-    if b == b'\n' {
-        if line.kind == CASE {
-            let mut l = line;
-            l.command = b'!';
-            answer(t, l);
+impl Cases for Pairs {
+    // With the lengths that stay and all marks lent.
+    fn ready(&self) -> Line {
+        let mut line = Line::fresh();
+        line.marks = MARKS;
+        line.long = self.table;
+        line.index = self.index;
+        line
+    }
+
+    fn show(&self, t: &Buffer, line: Line) {
+        let mut asked = line;
+        asked.command = Some(b'!');
+        answer(t, asked);
+    }
+
+    fn keep(&mut self, line: Line) {
+        self.table = line.long;
+        self.index = line.index;
+    }
+
+    // Carries out a command. Behind `k` the key's place is the next number.
+    fn act(&mut self, t: &mut Buffer, line: Line) -> Line {
+        match line.command {
+            Some(b'v') => every(t, line),
+            Some(b'?' | b'!' | b'w' | b's' | b'l' | b'h') => answer(t, line),
+            Some(b'k') => return line.noted(KEY),
+            _ => {}
         }
-        end(t, first, line);
-        return ready(lent);
-    }
-    step(t, line, b)
-}
-
-// Carries out a command.
-fn act(t: &Buffer, line: Line) {
-    let command = line.command;
-    match command {
-        b'v' => every(t, line),
-        b'?' | b'!' | b'w' | b's' | b'l' | b'h' => answer(t, line),
-        _ => {}
-    }
-}
-
-// Shows the cases of some lines; the first files are zero, and nothing of them is lent.
-pub fn run(lines: &[u8]) {
-    let mut t = [0u8; SIZE];
-    let mut first = [0u8; SIZE];
-    let mut lent = Lent { table: 0, index: 0 };
-    let mut line = ready(lent);
-    let mut i: usize = 0;
-    while i < lines.len() {
-        let b = lines[i];
-        i += 1;
-        lent = kept(line, lent, b);
-        line = feed(&mut t, &mut first, line, lent, b);
-        act(&t, line);
-        line = after(&mut t, line, b'k', KEY);
+        after(t, line)
     }
 }

@@ -2,10 +2,10 @@
 // or free, by the table's own words. Shown is ` 20 keys 20 fit 6 found 14 absent 0 differ 40 read`: for how many keys
 // the pair was accepted, how many were found in one place both ways, were absent both ways, or neither, and the index
 // blocks read for all of them. Before it stands the first key that is neither, with its lookups.
-use crate::answers::{look_up, show_lookups};
+use crate::answers::{look_up, reads, show_lookups};
 use crate::files::{MARKS, byte, further, index, table, word};
 use crate::keys::{Key, LONGEST, down, key_at, up};
-use crate::sum::{DIFFER, Sum, both, counted, no_keys, plus, show};
+use crate::sum::{Agreement, Sum, both, counted, show};
 use test_lines::lines::{Buffer, Line, part};
 use test_lines::print::{bytes, say};
 
@@ -14,16 +14,13 @@ fn seek(t: &Buffer, line: Line, key: &Key, sum: Sum) -> Sum {
     let sought = part(key, line.number);
     let mut marks = [line.fill; MARKS];
     let lookups = look_up(table(t, line), index(t, line), sought, &mut marks);
-    let walk = lookups.walk;
-    let walked = walk.found;
-    let scanned = lookups.scan;
-    let how = both(walked, scanned);
-    if (how == DIFFER) & (sum.differ == 0) {
+    let how = both(lookups.walk, lookups.scan);
+    if (how == Agreement::Differ) & (sum.differ == 0) {
         say(b" first ");
         bytes(sought);
         show_lookups(lookups);
     }
-    counted(sum, lookups.pair, walk.reads, how)
+    counted(sum, lookups.pair.is_ok(), reads(lookups.walk), how)
 }
 
 // The key at a place, the one before it and the one behind it.
@@ -42,19 +39,14 @@ fn three(t: &Buffer, line: Line, at: usize, sum: Sum) -> Sum {
 fn block(t: &Buffer, line: Line, head: usize, sum: Sum) -> Sum {
     let size = word(t, 0);
     let last = word(t, further(head, 4));
-    if size == 0 {
+    if (size == 0) | (32767 < last) {
         return sum;
     }
-    if 32767 < last {
-        return sum;
-    }
-    let mut left = plus(last / size, 1);
     let mut at = further(head, 6);
     let mut s = sum;
-    while 0 < left {
+    for _ in 0..(last / size).saturating_add(1) {
         s = three(t, line, at, s);
         at = further(at, size as usize);
-        left -= 1;
     }
     s
 }
@@ -72,12 +64,10 @@ pub fn every(t: &Buffer, line: Line) {
     let blocks = word(t, 0xc);
     let size = byte(t, 5) as usize * 1024;
     let mut head = word(t, 2) as usize;
-    let mut s = no_keys();
-    let mut b: u16 = 0;
-    while b < blocks {
+    let mut s = Sum::default();
+    for _ in 0..blocks {
         s = block(t, line, head, s);
         head = further(head, size);
-        b += 1;
     }
     show(ends(t, line, s));
 }

@@ -26,13 +26,7 @@ pub fn key(t: &Buffer, line: Line) -> &[u8] {
 
 // A place further on, at most the buffer's end.
 pub fn further(at: usize, by: usize) -> usize {
-    if SIZE < at {
-        return SIZE;
-    }
-    if SIZE - at < by {
-        return SIZE;
-    }
-    at + by
+    at.saturating_add(by).min(SIZE)
 }
 
 // The byte at a place; 0 outside the buffer.
@@ -43,8 +37,7 @@ pub fn byte(t: &Buffer, at: usize) -> u8 {
     0
 }
 
+// The little-endian number of two bytes.
 pub fn word(t: &Buffer, at: usize) -> u16 {
-    let low = byte(t, at);
-    let high = byte(t, further(at, 1));
-    low as u16 + 256 * high as u16
+    u16::from_le_bytes([byte(t, at), byte(t, further(at, 1))])
 }

@@ -13,44 +13,35 @@ pub fn key_at(t: &Buffer, at: usize, n: usize) -> Key {
     if LONGEST < n {
         return key;
     }
-    let mut i: usize = 0;
-    while i < n {
+    for i in 0..n {
         key[i] = byte(t, further(at, i));
-        i += 1;
     }
     key
 }
 
-// Makes a key the one right behind it in byte order. Behind the greatest comes the least.
-pub fn up(key: &mut Key, n: usize) {
+// Makes a key its neighbour in byte order: from the last of n bytes on, each one that `by` has no next for becomes
+// `over`, up to one that it has.
+fn step<F: Fn(u8) -> Option<u8>>(key: &mut Key, n: usize, by: F, over: u8)
+    requires { F.IsAlwaysCallable by }
+{
     if LONGEST < n {
         return;
     }
-    let mut i = n;
-    while 0 < i {
-        i -= 1;
-        let b = key[i];
-        if b < 255 {
-            key[i] = b + 1;
+    for i in (0..n).rev() {
+        if let Some(next) = by(key[i]) {
+            key[i] = next;
             return;
         }
-        key[i] = 0;
+        key[i] = over;
     }
+}
+
+// Makes a key the one right behind it in byte order. Behind the greatest comes the least.
+pub fn up(key: &mut Key, n: usize) {
+    step(key, n, |b| b.checked_add(1), 0);
 }
 
 // Makes a key the one right before it. Before the least comes the greatest.
 pub fn down(key: &mut Key, n: usize) {
-    if LONGEST < n {
-        return;
-    }
-    let mut i = n;
-    while 0 < i {
-        i -= 1;
-        let b = key[i];
-        if 0 < b {
-            key[i] = b - 1;
-            return;
-        }
-        key[i] = 255;
-    }
+    step(key, n, |b| b.checked_sub(1), 255);
 }

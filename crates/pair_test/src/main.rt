@@ -10,10 +10,12 @@ mod files;
 mod keys;
 mod sum;
 
+use cases::Pairs;
+use test_lines::cases::run;
 use test_lines::print::STDIN_FILENO;
 
 fn main() {
     let mut text = io::large_buffer();
     let n = io::read_full(STDIN_FILENO, &mut text);
-    cases::run(&text[..n]);
+    run(&mut Pairs::new(), &text[..n]);
 }

@@ -5,12 +5,14 @@ use mathlib.Core.Path.{◌≡◌, ap, ◌∙◌}
 use mathlib.Core.List.{List}
 use native.Mathlib.Omega.{arith}
 use lib.ListN.{length}
+use Rattle.header.specs.Refusals.{answer_number}
 use Rattle.header.specs.Numbers.{numbers_of}
 use Rattle.lookup.specs.Found.{Lookup}
 use Rattle.scan.specs.Scan.{scan_lookup}
 use Rattle.index.specs.Walk.{walk_numbers}
 use Rattle.pair.specs.Pair.{pair_answer}
 use Rattle.pair.proofs.Demand.{demand_3}
+use Rattle.numbers.proofs.LentLaws.{zero_kept}
 use Rattle.paradox.specs.Packing.{packed, refusal_in}
 
 -- the index blocks read are added to a lookup's other bits
@@ -23,8 +25,8 @@ no_refusal : (l : Lookup) (reads : ℕ) → l.refusal ≡ 0 → refusal_in (pack
 unfolding packed refusal_in
 no_refusal l reads e = omega (arith, e)
 
-module _ (t x key : List ℕ) (room room₂ : ℕ) (pair : pair_answer t x room ≡ 0) (marks : (numbers_of t).blocks ≤ room₂)
-    (size : length key ≡ (numbers_of t).key_length) where
+module _ (t x key : List ℕ) (room room₂ : ℕ) (pair : answer_number (pair_answer t x room) ≡ 0)
+    (marks : (numbers_of t).blocks ≤ room₂) (size : length key ≡ (numbers_of t).key_length) where
   abbrev walked : ℕ
   walked = packed (walk_numbers t x key).0 (walk_numbers t x key).1
 
@@ -34,7 +36,7 @@ module _ (t x key : List ℕ) (room room₂ : ℕ) (pair : pair_answer t x room 
   pub demand_3_packed : (walked ≡ scanned + 0x1000000000000 * (walk_numbers t x key).1) × (refusal_in walked ≡ 0)
       × (refusal_in scanned ≡ 0)
   demand_3_packed =
-      let a = demand_3 t x key room room₂ pair marks size in
+      let a = demand_3 t x key room room₂ (zero_kept (pair_answer t x room) pair) marks size in
       let same = ap (λ (l : Lookup). packed l (walk_numbers t x key).1) a.same in (
         same ∙ reads_added (scan_lookup t key room₂) (walk_numbers t x key).1,
         ap refusal_in same ∙ no_refusal (scan_lookup t key room₂) (walk_numbers t x key).1 a.finds.accepted,

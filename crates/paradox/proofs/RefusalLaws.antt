@@ -1,64 +1,58 @@
 -- Which refusals the packed answers of scan and walk have: those of the lookups, as each is of 8 bits; and that a
 -- refusal is its number and nothing else. Assumes nothing.
-use Prim.Native.Nat.{ℕ, ◌<◌}
-use mathlib.Core.Path.{◌≡◌, refl, sym}
-use mathlib.Core.Bool.{Bool, true, false, ◌&&◌, ◌||◌, true≢false}
-use mathlib.Core.List.{List, [], ◌∷◌}
+use Prim.Native.Nat.{ℕ}
+use mathlib.Core.Path.{◌≡◌, refl}
+use mathlib.Core.Bool.{true}
+use mathlib.Core.List.{List, ◌∷◌}
 use native.Mathlib.Omega.{arith}
-use lib.Dec.{eqb, ltb}
-use borrow.Author.Tests.{eqb-true, ltb-true}
-use Rattle.header.specs.Refusals.{one_of, header_refusals}
-use Rattle.table.specs.Table.{table_refusals}
-use Rattle.lookup.specs.Found.{Lookup}
+use Rattle.std.specs.Prelude.{Option, Some, None, Result, Ok, Err}
+use Rattle.header.specs.Refusals.{answer_number}
+use Rattle.header.specs.declared.refusal.Refusal.{Refusal}
+use Rattle.lookup.specs.Found.{Lookup, lookup_of}
 use Rattle.lookup.specs.Rules.{NoPlace}
-use Rattle.scan.specs.Scan.{scan_lookup, scan_refusals}
+use Rattle.lookup.specs.declared.found.Found.{Found}
+use Rattle.scan.specs.Scan.{scan_of, scan_lookup, scan_refusals}
 use Rattle.scan.proofs.KeyLaws.{scan_no_place}
 use Rattle.scan.proofs.RefusalLaws.{scan_refusals_lem}
-use Rattle.index.specs.Header.{index_refusals}
-use Rattle.index.specs.Walk.{walk_numbers, walk_refusals}
+use Rattle.index.specs.Walk.{found_of, reads_of, walk_of, walked_numbers, walk_numbers, walk_refusals}
+use Rattle.index.specs.declared.walking.Walked.{Walked}
 use Rattle.index.proofs.ReadsLaws.{walk_no_place}
 use Rattle.index.proofs.RefusalLaws.{walk_refusals_lem}
+use Rattle.numbers.specs.Lent.{numbered, is_one}
+use Rattle.numbers.proofs.LentLaws.{number_small, among_numbered}
 use Rattle.paradox.specs.Packing.{packed, refusal_in, packed_scan, packed_walk}
 
--- ---- numbers of 8 bits
+-- ---- an answer's number comes back from the packed one
 
--- every number of a list is one
-small : List ℕ → Bool
-small [] = true
-small (m ∷ ms) = ltb m 256 && small ms
+comes_back : (a : Result (Option Found) Refusal) (reads : ℕ) →
+    refusal_in (packed (lookup_of a) reads) ≡ answer_number a
+unfolding packed refusal_in lookup_of answer_number
+comes_back (Ok (Some found)) reads = omega arith
+comes_back (Ok None) reads = omega arith
+comes_back (Err r) reads = omega (arith, number_small r)
 
-one_small : (n : ℕ) (ms : List ℕ) → small ms ≡ true → one_of ms n ≡ true → n < 256
-unfolding small one_of
-one_small n [] s w = absurd (true≢false (sym w))
-one_small n (m ∷ ms) s w = go (ltb m 256) refl (eqb n m) refl s w (one_small n ms)
-  where
-    go : (b : Bool) → ltb m 256 ≡ b → (c : Bool) → eqb n m ≡ c → (b && small ms) ≡ true → (c || one_of ms n) ≡ true
-        → (small ms ≡ true → one_of ms n ≡ true → n < 256) → n < 256
-    go false d c e v u ih = absurd (true≢false (sym v))
-    go true d true e v u ih = omega (arith, ltb-true m 256 d, eqb-true n m e)
-    go true d false e v u ih = ih v u
-
--- a refusal of a list of them comes back from the packed answer
-comes_back : (ms : List ℕ) (l : Lookup) (reads : ℕ) → small ms ≡ true → one_of ms l.refusal ≡ true →
-    one_of ms (refusal_in (packed l reads)) ≡ true
-unfolding packed refusal_in
-comes_back ms l reads s w =
-    let few = one_small l.refusal ms s w in
-    let same : refusal_in (packed l reads) ≡ l.refusal = omega (arith, few) in
-    rw same w
+-- a walk has the number of what it found
+walk_number : (w : Result Walked Refusal) → answer_number (found_of w) ≡ answer_number w
+unfolding found_of answer_number
+walk_number (Ok w) = refl
+walk_number (Err r) = refl
 
 -- ---- the two lookups
 
 pub packed_scan_refusals : (t key : List ℕ) (room : ℕ) →
-    one_of (0 ∷ scan_refusals) (refusal_in (packed_scan t key room)) ≡ true
-unfolding small scan_refusals table_refusals header_refusals
+    is_one (0 ∷ numbered scan_refusals) (refusal_in (packed_scan t key room)) ≡ true
+unfolding scan_lookup
 packed_scan_refusals t key room =
-    comes_back (0 ∷ scan_refusals) (scan_lookup t key room) 0 refl (scan_refusals_lem t key room)
+    rw (comes_back (scan_of t key room) 0)
+    (among_numbered scan_refusals (scan_of t key room) (scan_refusals_lem t key room))
 
-pub packed_walk_refusals : (t x key : List ℕ) → one_of (0 ∷ walk_refusals) (refusal_in (packed_walk t x key)) ≡ true
-unfolding small walk_refusals header_refusals index_refusals
+pub packed_walk_refusals : (t x key : List ℕ) →
+    is_one (0 ∷ numbered walk_refusals) (refusal_in (packed_walk t x key)) ≡ true
+unfolding walk_numbers walked_numbers
 packed_walk_refusals t x key =
-    comes_back (0 ∷ walk_refusals) (walk_numbers t x key).0 (walk_numbers t x key).1 refl (walk_refusals_lem t x key)
+    let w = walk_of t x key in
+    rw (comes_back (found_of w) (reads_of w), walk_number w)
+    (among_numbered walk_refusals w (walk_refusals_lem t x key))
 
 -- ---- a refusal is its number and nothing else
 

@@ -2,6 +2,7 @@
 #![tactic(auto)]
 
 ghost use Rattle.std.specs.Prelude.{◌≡◌, length};
+ghost use Rattle.header.specs.Refusals.{answer_number};
 ghost use Rattle.table.specs.Table.{table_answer, table_marks};
 ghost use Rattle.lookup.specs.Found.{lookup_of};
 ghost use Rattle.scan.specs.Scan.{scan_marks};
@@ -13,24 +14,26 @@ ghost use Rattle.numbers.specs.Cursor.{start_lent, step_lent};
 ghost use Rattle.numbers.specs.Given.{write_given};
 ghost use Rattle.paradox.specs.Packing.{ScanUnpacked, Unpacked, WalkUnpacked, packed, packed_scan, packed_walk};
 
+use header::Refusal;
 use lookup::Found;
+use numbers::number_of;
 
 // Checks a table: 0, or the refusal's number. The mark buffer holds what the table check leaves in it.
 #[unsafe(no_mangle)]
 pub extern "C" fn paradox_table_check(table: &[u8], marks: &mut [u8]) -> u32
-    ensures value { result ≡ table_answer table.now (length marks.old) }
+    ensures value { result ≡ answer_number (table_answer table.now (length marks.old)) }
     ensures marks_after { marks.new ≡ table_marks table.now marks.old }
 {
-    table::check(table, marks) as u32
+    u32::from(number_of(table::check(table, marks)))
 }
 
 // Checks a table with its index: 0, or the refusal's number. The mark buffer holds what the table check leaves in it.
 #[unsafe(no_mangle)]
 pub extern "C" fn paradox_pair_check(table: &[u8], index: &[u8], marks: &mut [u8]) -> u32
-    ensures value { result ≡ pair_answer table.now index.now (length marks.old) }
+    ensures value { result ≡ answer_number (pair_answer table.now index.now (length marks.old)) }
     ensures marks_after { marks.new ≡ pair_marks table.now marks.old }
 {
-    pair::check(table, index, marks) as u32
+    u32::from(number_of(pair::check(table, index, marks)))
 }
 
 // Looks a key up by a scan of every record: the lookup's numbers, packed. The mark buffer holds what the table check
@@ -50,9 +53,10 @@ pub extern "C" fn paradox_walk(table: &[u8], index: &[u8], key: &[u8]) -> u64
     ensures value { result ≡ packed_walk table.now index.now key.now }
     ensures walk_unpacked { WalkUnpacked table.now index.now key.now result }
 {
-    let walked = index::walk(table, index, key);
-    let found = walked.found;
-    pack(found, walked.reads)
+    match index::walk(table, index, key) {
+        Ok(walked) => pack(Ok(walked.found), walked.reads),
+        Err(refusal) => pack(Err(refusal), 0),
+    }
 }
 
 // The header's numbers: 0, or the refusal's number with every lent number 0.
@@ -60,7 +64,7 @@ pub extern "C" fn paradox_walk(table: &[u8], index: &[u8], key: &[u8]) -> u64
 pub extern "C" fn paradox_header(table: &[u8], numbers: &mut [u64]) -> u32
     ensures { (result, numbers.new) ≡ header_numbers table.now numbers.old }
 {
-    numbers::of_header(table, numbers) as u32
+    u32::from(numbers::of_header(table, numbers))
 }
 
 // The numbers of a field, counted from 1: 0, or the refusal's number with every lent number 0.
@@ -68,7 +72,7 @@ pub extern "C" fn paradox_header(table: &[u8], numbers: &mut [u64]) -> u32
 pub extern "C" fn paradox_field(table: &[u8], field: usize, numbers: &mut [u64]) -> u32
     ensures { (result, numbers.new) ≡ field_numbers table.now field numbers.old }
 {
-    numbers::of_field(table, field, numbers) as u32
+    u32::from(numbers::of_field(table, field, numbers))
 }
 
 // The numbers of the cell at a block, a place and a field: 0, or the refusal's number with every lent number 0.
@@ -82,7 +86,7 @@ pub extern "C" fn paradox_cell(
 ) -> u32
     ensures { (result, cell.new) ≡ cell_numbers table.now block place field cell.old }
 {
-    numbers::of_cell(table, block, place, field, cell) as u32
+    u32::from(numbers::of_cell(table, block, place, field, cell))
 }
 
 // The numbers of all cells of a record: 0, or the refusal's number with every lent number 0.
@@ -90,7 +94,7 @@ pub extern "C" fn paradox_cell(
 pub extern "C" fn paradox_record(table: &[u8], block: usize, place: usize, cells: &mut [u64]) -> u32
     ensures { (result, cells.new) ≡ record_numbers table.now block place cells.old }
 {
-    numbers::of_record(table, block, place, cells) as u32
+    u32::from(numbers::of_record(table, block, place, cells))
 }
 
 // The file in which a blob is, 0 for a blank, and the part of it; or the refusal's number with every lent number 0.
@@ -120,7 +124,7 @@ pub extern "C" fn paradox_write(
 ) -> u32
     ensures { (result, out.new) ≡ write_given code width what value text.now out.old }
 {
-    numbers::write(code, width, what, value, text, out) as u32
+    u32::from(numbers::write(code, width, what, value, text, out))
 }
 
 // Starts a cursor: the refusal's number and whether a record came, packed. Refused, every lent number is 0.
@@ -139,19 +143,19 @@ pub extern "C" fn paradox_step(table: &[u8], cursor: &mut [u64]) -> u32
     numbers::step(table, cursor)
 }
 
-// A lookup's answer as one number.
-fn pack(found: Found, reads: u8) -> u64
-    ensures value { result ≡ packed (lookup_of found) reads }
-    ensures unpacked { Unpacked result (lookup_of found) reads }
+// A lookup's answer as one number, with the index blocks read.
+fn pack(answer: Result<Option<Found>, Refusal>, reads: u8) -> u64
+    ensures value { result ≡ packed (lookup_of answer) reads }
+    ensures unpacked { Unpacked result (lookup_of answer) reads }
 {
-    match found {
-        Found::At { block, place } => {
+    match answer {
+        Ok(Some(found)) => {
             0x100
-                + 0x10000 * (block as u64)
-                + 0x100000000 * (place as u64)
+                + 0x10000 * (found.block as u64)
+                + 0x100000000 * (found.place as u64)
                 + 0x1000000000000 * (reads as u64)
         }
-        Found::Absent => 0x1000000000000 * (reads as u64),
-        Found::Refused(number) => number as u64 + 0x1000000000000 * (reads as u64),
+        Ok(None) => 0x1000000000000 * (reads as u64),
+        Err(refusal) => u8::from(refusal) as u64 + 0x1000000000000 * (reads as u64),
     }
 }

@@ -7,9 +7,8 @@
 use crate::keys::ask;
 use crate::records::{list, show};
 use cursor::Cursor;
-use test_lines::lines::{
-    Buffer, CASE, Line, SIZE, TABLE_SIZE, answered, end, fresh, noted, part, step,
-};
+use test_lines::cases::Cases;
+use test_lines::lines::{Buffer, Line, TABLE_SIZE, part};
 
 // The cursor before any answer.
 fn no_cursor() -> Cursor {
@@ -22,27 +21,37 @@ fn no_cursor() -> Cursor {
 }
 
 // The cursor with the line's number as block, as place, or as moves.
-fn given(line: Line, cursor: Cursor) -> Cursor {
+fn given(line: Line, command: u8, cursor: Cursor) -> Cursor {
     let n = (line.number % 65536) as u16;
-    let command = line.command;
-    let mut c = cursor;
+    let ended = command == b'*';
     match command {
-        b'.' => c.block = n,
-        b'/' => c.place = n,
-        b'n' | b'*' => c.moves = n,
-        _ => {}
+        b'.' => Cursor {
+            block: n,
+            ended,
+            ..cursor
+        },
+        b'/' => Cursor {
+            place: n,
+            ended,
+            ..cursor
+        },
+        _ => Cursor {
+            moves: n,
+            ended,
+            ..cursor
+        },
     }
-    c.ended = command == b'*';
-    c
 }
 
 // Carries out a command. The cursor that is returned is the one of its answer.
 fn act(t: &Buffer, line: Line, cursor: Cursor) -> Cursor {
+    let Some(command) = line.command else {
+        return cursor;
+    };
     let table = part(t, line.long);
-    let command = line.command;
     match command {
-        b'.' | b'/' => given(line, cursor),
-        b'n' | b'*' => show(given(line, cursor).step(table)),
+        b'.' | b'/' => given(line, command, cursor),
+        b'n' | b'*' => show(given(line, command, cursor).step(table)),
         b'r' => show(cursor.step(table)),
         b's' => show(Cursor::start(table)),
         b'l' => list(table),
@@ -56,38 +65,42 @@ fn act(t: &Buffer, line: Line, cursor: Cursor) -> Cursor {
 
 // The line after a command.
 fn after(line: Line) -> Line {
-    let command = line.command;
-    match command {
-        0 => line,
-        b'k' => noted(line, TABLE_SIZE),
-        b'.' | b'/' => noted(line, 0),
-        _ => answered(line),
+    match line.command {
+        None => line,
+        Some(b'k') => line.noted(TABLE_SIZE),
+        Some(b'.' | b'/') => line.noted(0),
+        Some(_) => line.answered(),
     }
 }
 
-// Takes a byte of the cases.
-fn feed(t: &mut Buffer, first: &mut Buffer, line: Line, b: u8) -> Line {
-    if b == b'\n' {
-        if line.kind == CASE {
-            list(part(t, line.long));
+// What this program does with its cases: the cursor is that of the last answer.
+#[derive(Drop)]
+pub struct Records {
+    cursor: Cursor,
+}
+
+impl Records {
+    // Before any answer.
+    pub fn new() -> Records {
+        Records {
+            cursor: no_cursor(),
         }
-        return end(t, first, line);
     }
-    step(t, line, b)
 }
 
-// Shows the cases of some lines; the first table is zero.
-pub fn run(lines: &[u8]) {
-    let mut t = [0u8; SIZE];
-    let mut first = [0u8; SIZE];
-    let mut line = fresh();
-    let mut cursor = no_cursor();
-    let mut i: usize = 0;
-    while i < lines.len() {
-        let b = lines[i];
-        i += 1;
-        line = feed(&mut t, &mut first, line, b);
-        cursor = act(&t, line, cursor);
-        line = after(line);
+impl Cases for Records {
+    fn ready(&self) -> Line {
+        Line::fresh()
+    }
+
+    fn show(&self, t: &Buffer, line: Line) {
+        list(part(t, line.long));
+    }
+
+    fn keep(&mut self, _line: Line) {}
+
+    fn act(&mut self, t: &mut Buffer, line: Line) -> Line {
+        self.cursor = act(t, line, self.cursor);
+        after(line)
     }
 }

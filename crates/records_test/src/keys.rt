@@ -1,48 +1,37 @@
 // What a scan answers: the record's block and place, ` 4.1`, ` -` for absent, ` !13` for refusal 13. The marks may be
 // shown behind it, all 8, lent or not.
+use header::Refusal;
 use lookup::Found;
-use test_lines::lines::{Buffer, Line, TABLE_SIZE, part};
-use test_lines::print::{bytes, letter, number, say};
+use test_lines::lines::{Buffer, Line, TABLE_SIZE, behind, part};
+use test_lines::print::{bytes, letter, number, refused};
 
-// The key at the end of some bytes: what stands behind the table.
-fn key(s: &[u8]) -> &[u8] {
-    if TABLE_SIZE < s.len() {
-        return &s[TABLE_SIZE..];
-    }
-    &s[..0]
-}
-
-fn show(found: Found) {
+fn show(found: Result<Option<Found>, Refusal>) {
+    letter(b' ');
     match found {
-        Found::At { block, place } => {
-            letter(b' ');
-            number(block);
+        Ok(Some(found)) => {
+            number(found.block);
             letter(b'.');
-            number(place);
+            number(found.place);
         }
-        Found::Absent => say(b" -"),
-        Found::Refused(n) => {
-            say(b" !");
-            number(n as u16);
-        }
+        Ok(None) => letter(b'-'),
+        Err(refusal) => refused(refusal),
     }
 }
 
 // Scans with the first marks lent. More marks than there are cannot be lent.
 fn find(table: &[u8], key: &[u8], marks: &mut [u8], most: usize) {
-    if marks.len() < most {
-        return;
+    if let Some(lent) = marks.get_mut(..most) {
+        show(scan::find(table, key, lent));
     }
-    show(scan::find(table, key, &mut marks[..most]));
 }
 
-// Scans for the key that ends where the line stands; `!` shows the marks too.
+// Scans for the key that stands behind the table and ends where the line stands; `!` shows the marks too.
 pub fn ask(t: &Buffer, line: Line) {
     let table = part(t, line.long);
-    let sought = key(part(t, line.number));
+    let sought = behind(part(t, line.number), TABLE_SIZE);
     let mut marks = [line.fill; 8];
     find(table, sought, &mut marks, line.marks);
-    if line.command == b'!' {
+    if line.command == Some(b'!') {
         letter(b' ');
         bytes(&marks);
     }

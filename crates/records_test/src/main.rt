@@ -7,10 +7,12 @@ mod cases;
 mod keys;
 mod records;
 
+use cases::Records;
+use test_lines::cases::run;
 use test_lines::print::STDIN_FILENO;
 
 fn main() {
     let mut text = io::large_buffer();
     let n = io::read_full(STDIN_FILENO, &mut text);
-    cases::run(&text[..n]);
+    run(&mut Records::new(), &text[..n]);
 }

@@ -1,7 +1,7 @@
 // What a cursor answers, with each of its numbers. A record is shown as its block, place and moves, ` 4.1/0`, the end
 // as ` end 0.0/0*`, refusal 8 as ` !8 3.1/5`. A star stands behind a cursor that has ended.
-use cursor::{Cursor, Step};
-use test_lines::print::{letter, number, say};
+use cursor::{Cursor, Refused, Step};
+use test_lines::print::{letter, number, refused, say};
 
 fn numbers(c: Cursor) {
     letter(b' ');
@@ -16,22 +16,22 @@ fn numbers(c: Cursor) {
 }
 
 // Shows an answer. Its cursor is returned, for another step.
-pub fn show(answer: Step) -> Cursor {
+pub fn show(answer: Result<Step, Refused>) -> Cursor {
     match answer {
-        Step::Record(c) => {
-            numbers(c);
-            c
+        Ok(Step::Record(cursor)) => {
+            numbers(cursor);
+            cursor
         }
-        Step::End(c) => {
+        Ok(Step::End(cursor)) => {
             say(b" end");
-            numbers(c);
-            c
+            numbers(cursor);
+            cursor
         }
-        Step::Refused(n, c) => {
-            say(b" !");
-            number(n as u16);
-            numbers(c);
-            c
+        Err(Refused { refusal, cursor }) => {
+            letter(b' ');
+            refused(refusal);
+            numbers(cursor);
+            cursor
         }
     }
 }
@@ -39,15 +39,12 @@ pub fn show(answer: Step) -> Cursor {
 // Shows the start, and a step after each record: at most 64 answers.
 pub fn list(table: &[u8]) -> Cursor {
     let mut answer = Cursor::start(table);
-    let mut last = show(answer);
-    let mut shown: usize = 1;
-    while shown < 64 {
-        let Step::Record(c) = answer else {
+    for _ in 1..64 {
+        let last = show(answer);
+        let Ok(Step::Record(cursor)) = answer else {
             return last;
         };
-        answer = c.step(table);
-        last = show(answer);
-        shown += 1;
+        answer = cursor.step(table);
     }
-    last
+    show(answer)
 }

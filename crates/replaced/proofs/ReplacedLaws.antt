@@ -10,6 +10,7 @@ use native.Mathlib.Nat.{zero-add}
 use native.Mathlib.Omega.{arith}
 use lib.ListN.{length, take}
 use lib.Seq.{length-take-le, get_or-take}
+use Rattle.std.specs.Prelude.{Some}
 use Rattle.words.specs.Numbers.{byte}
 use Rattle.words.specs.Order.{range}
 use Rattle.words.specs.Replace.{replace_at}
@@ -17,19 +18,18 @@ use Rattle.words.proofs.ReplaceLaws.{replace_length, replace_inside, replace_byt
 use Rattle.words.proofs.Ranges.{range_byte}
 use Rattle.words.proofs.SameLaws.{same_byte}
 use Rattle.header.specs.Header.{block_head, header_refusal}
+use Rattle.header.specs.Refusals.{kept}
 use Rattle.header.specs.Kinds.{kind_of, is_blob}
-use Rattle.header.specs.Numbers.{numbers_of}
+use Rattle.header.specs.Numbers.{field_is, numbers_of}
 use Rattle.header.specs.Rules.{Accepted}
 use Rattle.header.specs.declared.Header.{Header}
+use Rattle.header.specs.declared.field.Field.{Field}
 use Rattle.header.specs.declared.kind.FieldKind.{FieldKind}
 use Rattle.header.specs.declared.kind.FieldKind.TheVariants as Kin
-use Rattle.header.specs.declared.kind.StoredKind.TheVariants.{Kind}
-use Rattle.header.specs.declared.field.Field.TheVariants.{Is}
 use Rattle.header.proofs.AcceptedLaws.{accepted}
 use Rattle.header.proofs.SameLaws.{rules_kept, numbers_same, field_same, answer_same}
 use Rattle.blocks.specs.Shape.{shape_of, block_at, record_at}
 use Rattle.blocks.specs.Counts.{count_in, last_record}
-use Rattle.blocks.specs.declared.count.Count.TheVariants.{Records}
 use Rattle.blocks.proofs.SameLaws.{count_same}
 use Rattle.cell.specs.Values.{Content, answer_of}
 use Rattle.cell.specs.Locating.{field_code, field_width, cell_start, BothSteps, Located, SamePlaces}
@@ -57,13 +57,13 @@ no_blob kind e plain = true≢false (rw e at plain)
 
 -- ---- a located cell of a table that keeps rules 1 to 7, and as many other bytes in its place
 
-module _ (t : List ℕ) (b p f : ℕ) (kind : FieldKind) (width at : ℕ) (kept : header_refusal t ≡ 0)
+module _ (t : List ℕ) (b p f : ℕ) (kind : FieldKind) (width at : ℕ) (right : header_refusal t ≡ kept)
     (here : BothSteps t (numbers_of t) b p f kind width at) (s : List ℕ) (wide : length s ≡ width) where
   abbrev h : Header
   h = numbers_of t
 
   its : Accepted t h
-  its = accepted t kept
+  its = accepted t right
 
   place : Located t h b p f kind width at
   place = located t h its b f kind width here.offset here.field p at here.place
@@ -92,11 +92,11 @@ module _ (t : List ℕ) (b p f : ℕ) (kind : FieldKind) (width at : ℕ) (kept 
   long : length u ≡ length t
   long = replace_length t at s fits
 
-  also : header_refusal u ≡ 0
-  also = rules_kept t u kept long front
+  also : header_refusal u ≡ kept
+  also = rules_kept t u right long front
 
   numbers : numbers_of u ≡ h
-  numbers = numbers_same t u kept long front
+  numbers = numbers_same t u right long front
 
   -- ---- the heads of the blocks
 
@@ -140,7 +140,7 @@ module _ (t : List ℕ) (b p f : ℕ) (kind : FieldKind) (width at : ℕ) (kept 
   places =
       record {
         shape = refl;
-        fields = field_same t u kept long front;
+        fields = field_same t u right long front;
         counts = λ block low high. counted block;
       }
 
@@ -162,8 +162,8 @@ module _ (t : List ℕ) (b p f : ℕ) (kind : FieldKind) (width at : ℕ) (kept 
       × (read_of u block place field ≡ read_of t block place field)
   cells block place field different =
       let same = others block place field different in (
-        cell_of_same t u kept also places_now block place field same,
-        read_same t u kept also places_now block place field same,
+        cell_of_same t u right also places_now block place field same,
+        read_same t u right also places_now block place field same,
       )
 
   -- a blob is another cell, as this one is none
@@ -171,21 +171,23 @@ module _ (t : List ℕ) (b p f : ℕ) (kind : FieldKind) (width at : ℕ) (kept 
       (blob_of u mb block place field ≡ blob_of t mb block place field)
       × (blob_bytes u mb (blob_of u mb block place field) ≡ blob_bytes t mb (blob_of t mb block place field))
   blobs plain mb block place field =
-      blob_same t u kept also places_now mb block place field (λ w to there. others block place field
+      blob_same t u right also places_now mb block place field (λ w to there. others block place field
       (λ x y z. apart_kinds x z there) Kin.Blob w to there)
     where
       apart_kinds : {w to : ℕ} → b ≡ block → f ≡ field → BothSteps t h block place field Kin.Blob w to → ⊥
       apart_kinds {w} x z there =
-          let e : Is kind width here.offset ≡ Is Kin.Blob w there.offset =
+          let e : field_is kind width here.offset ≡ field_is Kin.Blob w there.offset =
           sym here.field ∙ rw (x, z) there.field in
-          no_blob kind (cc) plain
+          let d : ◌≡◌ {A = Field} (record { kind = kind; width = width; offset = here.offset })
+          (record { kind = Kin.Blob; width = w; offset = there.offset }) = cc in
+          no_blob kind (ap (λ (a : Field). a.kind) d) plain
 
   -- ---- the table check
 
   counts_now : SameCounts t h u (numbers_of u)
   counts_now = rw numbers (record { count = counted; records = refl })
 
-  key_there : h.key_fields < f → (block n i : ℕ) → count_in t (shape_of h) block ≡ Records n → i < n →
+  key_there : h.key_fields < f → (block n i : ℕ) → count_in t (shape_of h) block ≡ Some n → i < n →
       range u (record_at (shape_of h) block i) h.key_length
       ≡ range t (record_at (shape_of h) block i) h.key_length
   unfolding count_in
@@ -200,10 +202,10 @@ module _ (t : List ℕ) (b p f : ℕ) (kind : FieldKind) (width at : ℕ) (kept 
   keys behind = record { fields = refl; keys = key_there behind }
 
   marks : (m : List ℕ) → table_marks u m ≡ table_marks t m
-  marks = table_marks_same t u kept also links_now
+  marks = table_marks_same t u right also links_now
 
   check : h.key_fields < f → (room : ℕ) → table_answer u room ≡ table_answer t room
-  check behind = table_answer_same t u kept also links_now counts_now (rw numbers (keys behind))
+  check behind = table_answer_same t u right also links_now counts_now (rw numbers (keys behind))
 
   -- the cell means what its new bytes mean, wherever they stand
   means : (after : List ℕ) → width ≤ length after → s ≡ take width after →
@@ -223,8 +225,8 @@ module _ (t : List ℕ) (b p f : ℕ) (kind : FieldKind) (width at : ℕ) (kept 
 
 -- ---- with the bytes of a value that was written
 
-module _ (t : List ℕ) (b p f : ℕ) (kept : header_refusal t ≡ 0) (there : HasCell t (numbers_of t) b p f) (code : ℕ)
-    (coded : kind_of code there.width ≡ Kind there.kind) (value : Content) (before after : List ℕ)
+module _ (t : List ℕ) (b p f : ℕ) (right : header_refusal t ≡ kept) (there : HasCell t (numbers_of t) b p f) (code : ℕ)
+    (coded : kind_of code there.width ≡ Some there.kind) (value : Content) (before after : List ℕ)
     (wrote : ReadsBack code there.width value before after) where
   abbrev now : List ℕ
   now = with_cell t there.at there.width after
@@ -246,22 +248,22 @@ module _ (t : List ℕ) (b p f : ℕ) (kept : header_refusal t ≡ 0) (there : H
       let same : wrote.kind ≡ kind = let c = wrote.coded in cc in
       let reads : answer_of after (cell_at kind after 0 width) ≡ (0, value) = rw same at wrote.reads in
       record {
-        long = long t b p f kind width at kept here s wide;
-        front = front_range t b p f kind width at kept here s wide;
-        header = answer_same t now kept (long t b p f kind width at kept here s wide)
-            (front t b p f kind width at kept here s wide);
-        heads = heads t b p f kind width at kept here s wide;
-        links = links_same t (numbers_of t) now (numbers_of now) (links_now t b p f kind width at kept here s wide);
-        counts = (counts_now t b p f kind width at kept here s wide).count;
-        cell = means t b p f kind width at kept here s wide after room refl ∙ reads;
-        others = cells t b p f kind width at kept here s wide;
-        blobs = blobs t b p f kind width at kept here s wide there.no_blob;
-        marks = marks t b p f kind width at kept here s wide;
-        check = check t b p f kind width at kept here s wide;
+        long = long t b p f kind width at right here s wide;
+        front = front_range t b p f kind width at right here s wide;
+        header = answer_same t now right (long t b p f kind width at right here s wide)
+            (front t b p f kind width at right here s wide);
+        heads = heads t b p f kind width at right here s wide;
+        links = links_same t (numbers_of t) now (numbers_of now) (links_now t b p f kind width at right here s wide);
+        counts = (counts_now t b p f kind width at right here s wide).count;
+        cell = means t b p f kind width at right here s wide after room refl ∙ reads;
+        others = cells t b p f kind width at right here s wide;
+        blobs = blobs t b p f kind width at right here s wide there.no_blob;
+        marks = marks t b p f kind width at right here s wide;
+        check = check t b p f kind width at right here s wide;
       }
 
 -- by what the calls answer and promise: reading the cell answers a value or 11, and a value that was written by the
--- field's own code and width reads back, as writing promises where it answers 0
+-- field's own code and width reads back, as writing promises where it does not refuse
 pub replaced_by_answers : (t : List ℕ) (b p f : ℕ) → ByBytes (cell_of t b p f)
     → (value : Content) (before after : List ℕ)
     → ReadsBack (field_code t f) (field_width t f) value before after

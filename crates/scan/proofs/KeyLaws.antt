@@ -1,16 +1,17 @@
 -- The scan of an accepted table with key fields is absent exactly when no record has the key, and what it finds is the
 -- only record that has it; a refused one hands out no place. Assumes nothing.
+use Rattle.std.specs.Prelude.{Option, None, Result, Ok, Err}
 use Prim.Native.Nat.{ℕ, ◌≤◌}
-use mathlib.Core.Path.{◌≡◌, refl, sym, ap, subst, ◌∙◌}
-use mathlib.Core.Bool.{Bool, true, false}
+use mathlib.Core.Path.{◌≡◌, sym, ap, subst, ◌∙◌}
+use mathlib.Core.Bool.{true}
 use mathlib.Core.List.{List}
 use native.Mathlib.Omega.{arith}
-use lib.Dec.{eqb}
 use lib.ListN.{length, get_or}
-use borrow.Author.Tests.{eqb-true, eqb-false}
-use Rattle.header.specs.Refusals.{bad_argument}
+use Rattle.header.specs.Refusals.{kept}
+use Rattle.header.specs.declared.refusal.Refusal.{Refusal}
 use Rattle.header.specs.Numbers.{numbers_of}
 use Rattle.header.specs.declared.Header.{Header}
+use Rattle.header.proofs.RefusalLaws.{refusal_least}
 use Rattle.blocks.specs.Shape.{shape_of}
 use Rattle.table.specs.Records.{Position, records_of}
 use Rattle.table.specs.Keys.{key_at}
@@ -18,47 +19,38 @@ use Rattle.table.specs.Table.{table_answer}
 use Rattle.table.proofs.RuleLaws.{accepted_table}
 use Rattle.table.proofs.UniqueLaws.{any_default, key_once}
 use Rattle.lookup.specs.Sought.{key_fits, first_with}
-use Rattle.lookup.specs.Found.{lookup_of}
+use Rattle.lookup.specs.Found.{lookup_of, found_at}
 use Rattle.lookup.specs.Rules.{HasKey, Finds, NoPlace}
 use Rattle.lookup.specs.declared.found.Found.{Found}
-use Rattle.lookup.specs.declared.found.Found.TheVariants.{At, Absent, Refused}
 use Rattle.lookup.proofs.FoundLaws.{refused_no_place, no_refusal, number_absent, number_found}
-use Rattle.lookup.proofs.KeyLaws.{fits_gives, fits_takes, Looked, finds, misses, looked, first_answers}
+use Rattle.lookup.proofs.KeyLaws.{fits_gives, fits_takes, Looked, finds, misses, looked}
 use Rattle.scan.specs.Scan.{scan_of, scan_lookup}
-use Rattle.scan.proofs.ScanLaws.{scan_refused, scan_unfit, scan_first}
+use Rattle.scan.proofs.ScanLaws.{scan_first}
 
 -- ---- a refused scan has a number, so absent is told from it by the numbers too
 
-pub refused_number : (t key : List ℕ) (room n : ℕ) → scan_of t key room ≡ Refused n → 1 ≤ n
-refused_number t key room n r = by_table (eqb (table_answer t room) 0) refl
-  where
-    same : (m : ℕ) → scan_of t key room ≡ Refused m → m ≡ n
-    same m e = cc
+pub refused_number : (t key : List ℕ) (room : ℕ) (r : Refusal) → scan_of t key room ≡ Err r →
+    1 ≤ (scan_lookup t key room).refusal
+unfolding scan_lookup lookup_of
+refused_number t key room r e = rw e (refusal_least r)
 
-    by_key : table_answer t room ≡ 0 → (b : Bool) → key_fits (numbers_of t) key ≡ b → 1 ≤ n
-    by_key e true f =
-        let h = numbers_of t in
-        absurd (first_answers t (shape_of h) key (records_of t h) n (sym (scan_first t key room e f) ∙ r))
-    by_key e false f = omega (arith, same bad_argument (scan_unfit t key room e f))
+-- ---- two places that are the same
 
-    by_table : (b : Bool) → eqb (table_answer t room) 0 ≡ b → 1 ≤ n
-    by_table true e = by_key (eqb-true (table_answer t room) 0 e) (key_fits (numbers_of t) key) refl
-    by_table false e =
-        let ne = eqb-false (table_answer t room) 0 e in omega (
-          arith,
-          same (table_answer t room) (scan_refused t key room ne),
-        )
+same_place : {b p c q : ℕ} → ◌≡◌ {A = Result (Option Found) Refusal} (Ok (found_at b p)) (Ok (found_at c q)) →
+    (b ≡ c) × (p ≡ q)
+unfolding lookup_of
+same_place e = (ap (λ a. (lookup_of a).block) e, ap (λ a. (lookup_of a).place) e)
 
 -- ---- the scan of an accepted table with key fields, for a key of its key length
 
-module _ (t key : List ℕ) (room : ℕ) (e : table_answer t room ≡ 0) (f : key_fits (numbers_of t) key ≡ true) where
+module _ (t key : List ℕ) (room : ℕ) (e : table_answer t room ≡ kept) (f : key_fits (numbers_of t) key ≡ true) where
   abbrev h : Header
   h = numbers_of t
 
   -- what the scan came to: the one record with the key, or that there is none
-  data Scanned (r : Found) : Type 0 where
-    record_found : (p : Position) → HasKey t h key p → r ≡ At p.block p.place → Scanned r
-    none_found : ((p : Position) → HasKey t h key p → ⊥) → r ≡ Absent → Scanned r
+  data Scanned (r : Result (Option Found) Refusal) : Type 0 where
+    record_found : (p : Position) → HasKey t h key p → r ≡ Ok (found_at p.block p.place) → Scanned r
+    none_found : ((p : Position) → HasKey t h key p → ⊥) → r ≡ Ok None → Scanned r
 
   scanned : Scanned (scan_of t key room)
   scanned = go (looked t (shape_of h) key (records_of t h))
@@ -66,7 +58,7 @@ module _ (t key : List ℕ) (room : ℕ) (e : table_answer t room ≡ 0) (f : ke
       size : length key ≡ h.key_length
       size = (fits_gives h key f).1
 
-      first : scan_of t key room ≡ first_with t (shape_of h) key (records_of t h)
+      first : scan_of t key room ≡ Ok (first_with t (shape_of h) key (records_of t h))
       first = scan_first t key room e f
 
       go : Looked t (shape_of h) key (records_of t h) (first_with t (shape_of h) key (records_of t h)) →
@@ -78,12 +70,12 @@ module _ (t key : List ℕ) (room : ℕ) (e : table_answer t room ≡ 0) (f : ke
             there = there;
             same = subst
                 (λ (n : ℕ). key_at t (shape_of h) n p ≡ key) size same;
-          }) (first ∙ at)
+          }) (first ∙ ap Ok at)
       go (misses none at) =
           none_found
           (λ p k. none k.index p k.inside (rw k.there
           (subst (λ (n : ℕ). key_at t (shape_of h) n p ≡ key) (sym size) k.same)))
-          (first ∙ at)
+          (first ∙ ap Ok at)
 
   -- records with the key are one record
   pub one_record : (p q : Position) → HasKey t h key p → HasKey t h key q → p ≡ q
@@ -96,66 +88,69 @@ module _ (t key : List ℕ) (room : ℕ) (e : table_answer t room ≡ 0) (f : ke
       ∙ l.there
 
   -- it is not refused
-  pub scan_answers : (n : ℕ) → scan_of t key room ≡ Refused n → ⊥
-  scan_answers n r = go scanned
+  pub scan_answers : (s : Refusal) → scan_of t key room ≡ Err s → ⊥
+  scan_answers s r = go scanned
     where
       go : Scanned (scan_of t key room) → ⊥
       go (record_found p k at) = let z : ◌≡◌ {A = ℕ} 0 1 = cc in omega arith
       go (none_found none at) = let z : ◌≡◌ {A = ℕ} 0 1 = cc in omega arith
 
   -- absent exactly when no record has the key
-  pub absent_gives : scan_of t key room ≡ Absent → (p : Position) → HasKey t h key p → ⊥
+  pub absent_gives : scan_of t key room ≡ Ok None → (p : Position) → HasKey t h key p → ⊥
   absent_gives r p l = go scanned
     where
       go : Scanned (scan_of t key room) → ⊥
       go (record_found q k at) = let z : ◌≡◌ {A = ℕ} 0 1 = cc in omega arith
       go (none_found none at) = none p l
 
-  pub absent_takes : ((p : Position) → HasKey t h key p → ⊥) → scan_of t key room ≡ Absent
+  pub absent_takes : ((p : Position) → HasKey t h key p → ⊥) → scan_of t key room ≡ Ok None
   absent_takes none = go scanned
     where
-      go : Scanned (scan_of t key room) → scan_of t key room ≡ Absent
+      go : Scanned (scan_of t key room) → scan_of t key room ≡ Ok None
       go (record_found q k at) = absurd (none q k)
       go (none_found _ at) = at
 
   -- found at a block and place exactly when the record there has the key
-  pub found_gives : (p : Position) → scan_of t key room ≡ At p.block p.place → HasKey t h key p
+  pub found_gives : (p : Position) → scan_of t key room ≡ Ok (found_at p.block p.place) → HasKey t h key p
   found_gives p r = go scanned
     where
       go : Scanned (scan_of t key room) → HasKey t h key p
-      go (record_found q k at) = let b : p.block ≡ q.block = cc in let i : p.place ≡ q.place = cc in rw (b, i) k
+      go (record_found q k at) = let e = same_place (sym r ∙ at) in rw (e.0, e.1) k
       go (none_found none at) = let z : ◌≡◌ {A = ℕ} 0 1 = cc in absurd (omega arith)
 
-  pub found_takes : (p : Position) → HasKey t h key p → scan_of t key room ≡ At p.block p.place
+  pub found_takes : (p : Position) → HasKey t h key p → scan_of t key room ≡ Ok (found_at p.block p.place)
   found_takes p l = go scanned
     where
-      go : Scanned (scan_of t key room) → scan_of t key room ≡ At p.block p.place
+      go : Scanned (scan_of t key room) → scan_of t key room ≡ Ok (found_at p.block p.place)
       go (record_found q k at) = at ∙ rw (one_record q p k l)
       go (none_found none at) = absurd (none p l)
 
 -- ---- the same by the scan's numbers
 
-pub scan_finds : (t key : List ℕ) (room : ℕ) → table_answer t room ≡ 0 → 1 ≤ (numbers_of t).key_fields →
+pub scan_finds : (t key : List ℕ) (room : ℕ) → table_answer t room ≡ kept → 1 ≤ (numbers_of t).key_fields →
     length key ≡ (numbers_of t).key_length → Finds t (numbers_of t) key (scan_lookup t key room)
 unfolding scan_lookup lookup_of
 scan_finds t key room e keyed size =
-    let r = scan_of t key room in
     let f = fits_takes (numbers_of t) key keyed size in
-    let answers = scan_answers t key room e f in
-    record {
-      accepted = no_refusal r answers;
-      absent_gives = λ z. absent_gives t key room e f (number_absent r answers z);
-      absent_takes = λ none. ap (λ (a : Found). (lookup_of a).found) (absent_takes t key room e f none);
+    let h = numbers_of t in
+    let r = first_with t (shape_of h) key (records_of t h) in
+    let first = scan_first t key room e f in
+    rw first
+    (record {
+      accepted = no_refusal r;
+      absent_gives = λ z. absent_gives t key room e f (first ∙ ap Ok (number_absent r z));
+      absent_takes = λ none. ap (λ a. (lookup_of a).found) (sym first ∙ absent_takes t key room e f none);
       found_gives =
-          λ z. found_gives t key room e f (record { block = (lookup_of r).block; place = (lookup_of r).place })
-          (number_found r answers z);
+          λ z. found_gives t key room e f
+          (record { block = (lookup_of (Ok r)).block; place = (lookup_of (Ok r)).place })
+          (first ∙ ap Ok (number_found r z));
       found_takes =
-          λ p k. let at = found_takes t key room e f p k in (
-            ap (λ (a : Found). (lookup_of a).found) at,
-            ap (λ (a : Found). (lookup_of a).block) at,
-            ap (λ (a : Found). (lookup_of a).place) at,
+          λ p k. let at = sym first ∙ found_takes t key room e f p k in (
+            ap (λ a. (lookup_of a).found) at,
+            ap (λ a. (lookup_of a).block) at,
+            ap (λ a. (lookup_of a).place) at,
           );
-    }
+    })
 
 -- a refused scan hands out no place
 pub scan_no_place : (t key : List ℕ) (room : ℕ) → ((scan_lookup t key room).refusal ≡ 0 → ⊥) →

@@ -1,20 +1,23 @@
--- The mark buffer by the answer's number: unchanged with 1 to 7 and 14, cleared with 8, else the marks of both
+-- The mark buffer by the answer: unchanged with 1 to 7 and 14, cleared with 8, else the marks of both
 -- chains. Assumes nothing.
-use Prim.Native.Nat.{ℕ, zero, suc}
+use Rattle.std.specs.Prelude.{Ok, Err}
+use Prim.Native.Nat.{ℕ}
 use mathlib.Core.Path.{◌≡◌, refl, sym, ap, ◌∙◌}
 use mathlib.Core.Bool.{Bool, true, false, cond, ◌||◌}
-use mathlib.Core.List.{List, ◌++◌}
+use mathlib.Core.List.{List, [], ◌∷◌, ◌++◌}
 use native.Mathlib.Omega.{arith}
-use lib.Dec.{eqb, leb}
+use lib.Dec.{leb}
 use lib.ListN.{length, replicate, drop, length-append, length-replicate}
 use lib.Seq.{drop_at}
 use borrow.Author.Tests.{le-leb}
-use Rattle.header.specs.Refusals.{one_of, header_refusals, chain_rule, short_buffer, first_broken}
+use Rattle.header.specs.Refusals.{Verdict, kept, number, one_of, header_refusals, first_broken}
+use Rattle.header.specs.declared.refusal.Refusal.{Refusal}
+use Rattle.header.specs.declared.refusal.Refusal.TheVariants.{ChainRule, ShortBuffer}
 use Rattle.header.specs.Header.{header_refusal}
 use Rattle.header.specs.Numbers.{numbers_of}
 use Rattle.header.specs.Answers.{unless_refused, header_first}
 use Rattle.header.specs.declared.Header.{Header}
-use Rattle.header.proofs.RefusalLaws.{one_of_rest, header_refusals_lem}
+use Rattle.header.proofs.RefusalLaws.{among_is, header_refusals_lem}
 use Rattle.chain.specs.Links.{used_of}
 use Rattle.chain.specs.Marks.{unmarked, marks_of}
 use Rattle.chain.proofs.ListLaws.{marks_length}
@@ -38,43 +41,45 @@ module _ (t m : List ℕ) where
   by_rules true true true = accepting
 
   -- 14 comes before them
-  by_room : (room : Bool) (a : ℕ) (marks : List ℕ) → MarksLeft t m a marks →
-      MarksLeft t m (first_broken room short_buffer a) (cond room marks m)
+  by_room : (room : Bool) (a : Verdict) (marks : List ℕ) → MarksLeft t m a marks →
+      MarksLeft t m (first_broken room ShortBuffer a) (cond room marks m)
   by_room true a marks k = k
   by_room false a marks k = by_buffer
 
   -- 1 to 7 come first
-  by_number : (n a : ℕ) (marks : List ℕ) → header_refusal t ≡ n → MarksLeft t m a marks →
-      MarksLeft t m (unless_refused n (λ (i : ℕ). i) a) (unless_refused n (λ (i : ℕ). m) marks)
+  by_verdict : (v a : Verdict) (marks : List ℕ) → header_refusal t ≡ v → MarksLeft t m a marks →
+      MarksLeft t m (unless_refused v Err a) (unless_refused v (λ (r : Refusal). m) marks)
   unfolding unless_refused
-  by_number zero a marks e k = k
-  by_number (suc n) a marks e k = by_header e (omega arith)
+  by_verdict (Ok none) a marks e k = k
+  by_verdict (Err r) a marks e k = by_header e
 
   -- what the check leaves in the mark buffer, by its answer
   pub marks_left : MarksLeft t m (table_answer t (length m)) (table_marks t m)
   unfolding table_answer table_marks header_first blocks_answer buffer_after rules_answer block_marks
   marks_left =
       let h = numbers_of t in
-      by_number (header_refusal t) (blocks_answer t h (length m)) (buffer_after t h m) refl
+      by_verdict (header_refusal t) (blocks_answer t h (length m)) (buffer_after t h m) refl
       (by_room (leb h.blocks (length m)) (rules_answer t h) (block_marks t h ++ drop h.blocks m)
       (by_rules (table_chained t h) (counts_right t h (used_of t h)) (keys_ascend t h (used_of t h))))
 
-  -- what the buffer holds then, computed from the answer's number
-  abbrev marks_by : ℕ → List ℕ
-  marks_by a =
+  -- what the buffer holds then, computed from the answer
+  unfoldable marks_by : Verdict → List ℕ
+  marks_by (Ok none) = noted t m
+  marks_by (Err r) =
       let h = numbers_of t in
-      cond (one_of header_refusals a || eqb a short_buffer) m
-      (cond (eqb a chain_rule) (replicate h.blocks unmarked ++ drop h.blocks m) (noted t m))
+      cond (one_of header_refusals r || one_of (ShortBuffer ∷ []) r) m
+      (cond (one_of (ChainRule ∷ []) r) (replicate h.blocks unmarked ++ drop h.blocks m) (noted t m))
 
   -- with 1 to 7 it is unchanged
-  unchanged : (a : ℕ) → one_of header_refusals a ≡ true → m ≡ marks_by a
-  unchanged a w = rw w
+  unchanged : (r : Refusal) → one_of header_refusals r ≡ true → m ≡ marks_by (Err r)
+  unfolding marks_by
+  unchanged r w = rw w
 
-  -- the number alone decides the marks
-  answered : (a : ℕ) (marks : List ℕ) → MarksLeft t m a marks → marks ≡ marks_by a
-  unfolding one_of header_refusals
-  answered a marks (by_header r l) =
-      unchanged a (one_of_rest a 0 header_refusals (λ z. omega arith) (rw (← r) (header_refusals_lem t)))
+  -- the answer alone decides the marks
+  answered : (a : Verdict) (marks : List ℕ) → MarksLeft t m a marks → marks ≡ marks_by a
+  unfolding marks_by one_of header_refusals number
+  answered a marks (by_header {r} e) =
+      unchanged r (among_is header_refusals (header_refusal t) (header_refusals_lem t) e)
   answered a marks by_buffer = refl
   answered a marks by_chains = refl
   answered a marks by_counts = refl
@@ -88,8 +93,8 @@ module _ (t m : List ℕ) where
 
   -- an accepted table's marks: 1 for a used block and 2 for a free one. A later answer of a call that ran the check
   -- leaves them so
-  pub accepted_marks : table_answer t (length m) ≡ 0 → table_marks t m ≡ noted t m
-  unfolding one_of header_refusals
+  pub accepted_marks : table_answer t (length m) ≡ kept → table_marks t m ≡ noted t m
+  unfolding marks_by
   accepted_marks e = answered (table_answer t (length m)) (table_marks t m) marks_left ∙ ap marks_by e
 
 -- ---- a second check leaves what the first one left
@@ -129,9 +134,9 @@ marks_again t m = go (header_refusal t)
     marks : List ℕ → List ℕ
     marks l = buffer_after t (numbers_of t) l
 
-    go : (n : ℕ) →
-        unless_refused n (λ (i : ℕ). unless_refused n (λ (j : ℕ). m) (marks m))
-        (marks (unless_refused n (λ (j : ℕ). m) (marks m)))
-        ≡ unless_refused n (λ (j : ℕ). m) (marks m)
-    go zero = buffer_again t (numbers_of t) m
-    go (suc n) = refl
+    go : (v : Verdict) →
+        unless_refused v (λ (r : Refusal). unless_refused v (λ (q : Refusal). m) (marks m))
+        (marks (unless_refused v (λ (q : Refusal). m) (marks m)))
+        ≡ unless_refused v (λ (q : Refusal). m) (marks m)
+    go (Ok none) = buffer_again t (numbers_of t) m
+    go (Err r) = refl

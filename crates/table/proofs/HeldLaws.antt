@@ -1,5 +1,6 @@
 -- Blocks that hold so many records each: those numbers are what their counts give, and so are the records. Assumes
 -- nothing.
+use Rattle.std.specs.Prelude.{Option, Some}
 use Prim.Native.Nat.{ℕ, zero, suc, ◌+◌, ◌≤◌, ◌<◌}
 use mathlib.Core.Path.{◌≡◌, refl, ap}
 use mathlib.Core.Bool.{true}
@@ -9,8 +10,6 @@ use lib.ListN.{length, get_or}
 use Rattle.blocks.specs.Counts.{count_in}
 use Rattle.blocks.specs.Rules.{Holds}
 use Rattle.blocks.specs.declared.Shape.{Shape}
-use Rattle.blocks.specs.declared.count.Count.{Count}
-use Rattle.blocks.specs.declared.count.Count.TheVariants.{Records}
 use Rattle.blocks.proofs.RuleLaws.{holds_gives, holds_takes}
 use Rattle.chain.proofs.ListLaws.{every_gives, every_takes}
 use Rattle.table.specs.Records.{held, records_held, records_in}
@@ -18,11 +17,11 @@ use Rattle.table.specs.Counts.{is_good, counts_good, sum, total}
 use Rattle.table.proofs.RecordLaws.{good_count}
 
 -- a count of records is good, and stands for so many
-records_good : (c : Count) (n : ℕ) → c ≡ Records n → is_good c ≡ true
+records_good : (c : Option ℕ) (n : ℕ) → c ≡ Some n → is_good c ≡ true
 unfolding is_good
 records_good c n e = rw e
 
-records_held_lem : (c : Count) (n : ℕ) → c ≡ Records n → held c ≡ n
+records_held_lem : (c : Option ℕ) (n : ℕ) → c ≡ Some n → held c ≡ n
 unfolding held
 records_held_lem c n e = rw e
 

@@ -18,7 +18,7 @@ use Rattle.table.specs.Records.{Position, places_from}
 use Rattle.table.specs.Keys.{key_at, ascend_from, ascend}
 use Rattle.table.specs.Steps.{next_key, keys_after, run_after, is_ordered, KeyInside, last, unordered}
 use Rattle.table.specs.declared.keys.Keys.{Keys}
-use Rattle.table.specs.declared.keys.Keys.TheVariants.{None, Last, Unordered}
+use Rattle.table.specs.declared.keys.Keys.TheVariants.{Empty, Last, Unordered}
 
 module _ (t : List ℕ) (g : Shape) (key b : ℕ) where
   -- ---- the records of a block from a place up to a count
@@ -28,7 +28,8 @@ module _ (t : List ℕ) (g : Shape) (key b : ℕ) where
   keys_unordered place zero = refl
   keys_unordered place (suc n) = keys_unordered (suc place) n
 
-  pub keys_end : (place count : ℕ) (keys : Keys) → count ≤ place → keys_after t g key b place (count - place) keys ≡ keys
+  pub keys_end : (place count : ℕ) (keys : Keys) → count ≤ place →
+      keys_after t g key b place (count - place) keys ≡ keys
   unfolding keys_after
   keys_end place count keys h = let e : count - place ≡ 0 = omega arith in rw e
 
@@ -66,11 +67,11 @@ module _ (t : List ℕ) (g : Shape) (key b : ℕ) where
     unfolding run_after
     run_keyed keys = rw (ne_eqb key 0 e)
 
-    pub run_first : (n ≡ 0 → ⊥) → run_after t g key b n None ≡ keys_after t g key b 1 (n - 1) (Last (record_at g b 0))
+    pub run_first : (n ≡ 0 → ⊥) → run_after t g key b n Empty ≡ keys_after t g key b 1 (n - 1) (Last (record_at g b 0))
     unfolding next_key
     run_first h =
-        run_keyed None ∙ ap (λ (m : ℕ). keys_after t g key b 0 m None) (sym (sub-zero n))
-        ∙ keys_more 0 n None (omega arith)
+        run_keyed Empty ∙ ap (λ (m : ℕ). keys_after t g key b 0 m Empty) (sym (sub-zero n))
+        ∙ keys_more 0 n Empty (omega arith)
 
     pub run_last : (at : ℕ) → run_after t g key b n (Last at) ≡ keys_after t g key b 0 (n - 0) (Last at)
     run_last at = rw (sub-zero n) (run_keyed (Last at))
@@ -86,7 +87,7 @@ passed t g key keys ps = foldl (λ (k : Keys) (p : Position). next_key t key k (
 
 -- keys strictly ascend, and from the last one passed on
 unfoldable pub ascend_after : List ℕ → ℕ → Keys → List (List ℕ) → Bool
-ascend_after t key None keys = ascend keys
+ascend_after t key Empty keys = ascend keys
 ascend_after t key (Last at) keys = ascend_from (range t at key) keys
 ascend_after t key Unordered keys = false
 
@@ -105,10 +106,10 @@ module _ (t : List ℕ) (g : Shape) (key : ℕ) where
   pub passed_ascend : (ps : List Position) (keys : Keys) →
       is_ordered (passed t g key keys ps) ≡ ascend_after t key keys (map (key_at t g key) ps)
   unfolding is_ordered next_key ascend_after ascend ascend_from
-  passed_ascend [] None = refl
+  passed_ascend [] Empty = refl
   passed_ascend [] (Last at) = refl
   passed_ascend [] Unordered = refl
-  passed_ascend (p ∷ ps) None = passed_ascend ps (Last (record_at g p.block p.place))
+  passed_ascend (p ∷ ps) Empty = passed_ascend ps (Last (record_at g p.block p.place))
   passed_ascend (p ∷ ps) (Last at) = go (is_less (order (range t at key) (key_at t g key p))) (passed_ascend ps)
     where
       go : (less : Bool) → ((keys : Keys) →
@@ -127,7 +128,7 @@ last_inside t key at (last h) = h
 module _ (t : List ℕ) (g : Shape) (key : ℕ) where
   next_inside : (keys : Keys) (at : ℕ) → at + key ≤ length t → KeyInside t key (next_key t key keys at)
   unfolding next_key
-  next_inside None at h = last h
+  next_inside Empty at h = last h
   next_inside (Last before) at h = go (is_less (order (range t before key) (range t at key)))
     where
       go : (less : Bool) → KeyInside t key (cond less (Last at) Unordered)
@@ -144,8 +145,8 @@ module _ (t : List ℕ) (g : Shape) (key : ℕ) where
       (next_inside keys (record_at g b place) (h place (omega arith)))
 
   -- behind a block whose records are inside the table the last key passed is inside it
-  pub run_stays : (b n : ℕ) (keys : Keys) → ((i : ℕ) → i < n → record_at g b i + key ≤ length t) → KeyInside t key keys →
-      KeyInside t key (run_after t g key b n keys)
+  pub run_stays : (b n : ℕ) (keys : Keys) → ((i : ℕ) → i < n → record_at g b i + key ≤ length t) →
+      KeyInside t key keys → KeyInside t key (run_after t g key b n keys)
   unfolding run_after
   run_stays b n keys h k = go (eqb key 0)
     where

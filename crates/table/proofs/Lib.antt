@@ -6,6 +6,7 @@ pub mod HeldLaws
 pub mod UsedLaws
 pub mod ChainsLaws
 pub mod CheckLaws
+pub mod CountLaws
 pub mod OnceLaws
 pub mod TotalLaws
 pub mod RuleLaws

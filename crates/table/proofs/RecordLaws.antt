@@ -1,5 +1,6 @@
 -- The records of some blocks: how many, where each is; good counts; and the key rule, test and proposition.
 -- Assumes nothing.
+use Rattle.std.specs.Prelude.{Option, Some, None}
 use Prim.Native.Nat.{ℕ, zero, suc, ◌+◌, ◌-◌, ◌≤◌, ◌<◌}
 use mathlib.Core.Path.{◌≡◌, refl, sym, ap, ◌∙◌}
 use mathlib.Core.Bool.{true, false≢true}
@@ -10,14 +11,12 @@ use native.Mathlib.Omega.{arith}
 use lib.ListN.{length, get_or, length-append, get_or-append}
 use lib.Seq.{get_or-append-add}
 use Rattle.words.specs.Order.{is_less, order}
-use Rattle.words.specs.declared.Order.TheVariants.{Less}
+use Rattle.std.specs.declared.cmp.Ordering.TheVariants.{Less}
 use Rattle.words.proofs.Cases.{lt_or_ge}
 use Rattle.words.proofs.Conjunctions.{both, join}
 use Rattle.words.proofs.OrderLaws.{is_less_lem, less_trans}
 use Rattle.blocks.specs.Counts.{count_in}
 use Rattle.blocks.specs.declared.Shape.{Shape}
-use Rattle.blocks.specs.declared.count.Count.{Count}
-use Rattle.blocks.specs.declared.count.Count.TheVariants.{Records, Bad}
 use Rattle.chain.proofs.ListLaws.{every_gives}
 use Rattle.table.specs.Records.{Position, held, places_from, records_in}
 use Rattle.table.specs.Counts.{is_good, counts_good, total}
@@ -50,19 +49,19 @@ records_append t g (b ∷ bs) cs =
 
 -- ---- counts
 
-good_not_bad : (c : Count) → is_good c ≡ true → c ≡ Bad → ⊥
+good_not_bad : (c : Option ℕ) → is_good c ≡ true → c ≡ None → ⊥
 unfolding is_good
 good_not_bad c e f = false≢true (rw f at e)
 
 -- a good count is one of records
-pub good_count : (c : Count) → is_good c ≡ true → c ≡ Records (held c)
+pub good_count : (c : Option ℕ) → is_good c ≡ true → c ≡ Some (held c)
 unfolding is_good held
-good_count (Records n) e = refl
-good_count Bad e = absurd (false≢true e)
+good_count (Some n) e = refl
+good_count None e = absurd (false≢true e)
 
 -- where every count is good, none is bad
 pub counts_give : (t : List ℕ) (g : Shape) (bs : List ℕ) → counts_good t g bs ≡ true → (i : ℕ) → i < length bs →
-    count_in t g (get_or bs i 0) ≡ Bad → ⊥
+    count_in t g (get_or bs i 0) ≡ None → ⊥
 counts_give t g bs e i l =
     good_not_bad (count_in t g (get_or bs i 0)) (every_gives (λ (b : ℕ). is_good (count_in t g b)) bs e i l)
 
@@ -77,7 +76,7 @@ from_gives before (key ∷ keys) e (suc i) l =
     from_gives key keys (both {a = is_less (order before key)} {b = ascend_from key keys} e).1 i (omega arith)
 
 from_takes : (before : List ℕ) (keys : List (List ℕ)) → Ascending (before ∷ keys) → ascend_from before keys ≡ true
-unfolding ascend_from is_less
+unfolding ascend_from
 from_takes before [] h = refl
 from_takes before (key ∷ keys) h =
     join (ap is_less (h 0 (omega arith))) (from_takes key keys (λ i l. h (suc i) (omega arith)))

@@ -1,5 +1,6 @@
--- Demand 2 for tables: with a mark for each block the answer is 0 exactly when `TableRules` holds; and what an
+-- Demand 2 for tables: with a mark for each block the rules are kept exactly when `TableRules` holds; and what an
 -- accepted table gives. Assumes nothing.
+use Rattle.std.specs.Prelude.{Err}
 use Prim.Native.Nat.{ℕ, ◌≤◌}
 use mathlib.Core.Path.{◌≡◌, refl, sym, ap, ◌∙◌}
 use mathlib.Core.Bool.{Bool, true, false, cond}
@@ -9,6 +10,9 @@ use lib.Dec.{eqb, leb}
 use lib.ListN.{length-map}
 use borrow.Author.Tests.{eq-eqb, eqb-true, le-leb, leb-true}
 use Rattle.words.proofs.Conjunctions.{both, join}
+use Rattle.header.specs.Refusals.{kept}
+use Rattle.header.specs.declared.refusal.Refusal.{Refusal}
+use Rattle.header.specs.declared.refusal.Refusal.TheVariants.{ChainRule, WrongCount, KeyOrder, ShortBuffer}
 use Rattle.header.specs.Header.{header_refusal}
 use Rattle.header.specs.Numbers.{numbers_with, numbers_in, numbers_of}
 use Rattle.header.specs.Answers.{header_first}
@@ -30,7 +34,7 @@ use Rattle.table.proofs.RecordLaws.{records_total, counts_give, ascend_gives, as
 use Rattle.table.proofs.HeldLaws.{counts_of, sum_counts, held_records, holding_gives, holding_good}
 use Rattle.table.proofs.HeldLaws.{holding_counts}
 
--- ---- the answer is 0 exactly when every test holds
+-- ---- the rules are kept exactly when every test holds
 
 -- the tests of a table, apart
 record Kept (t : List ℕ) (h : Header) : Type 0 where
@@ -38,33 +42,34 @@ record Kept (t : List ℕ) (h : Header) : Type 0 where
   counts : counts_right t h (used_of t h) ≡ true
   keys : keys_ascend t h (used_of t h) ≡ true
 
-records_give : (t : List ℕ) (h : Header) → rules_answer t h ≡ 0 → Kept t h
+records_give : (t : List ℕ) (h : Header) → rules_answer t h ≡ kept → Kept t h
 unfolding rules_answer tests_answer
 records_give t h e =
-    let p₁ = kept_of (table_chained t h) 7 _ e in
-    let p₂ = kept_of (counts_right t h (used_of t h)) 8 _ p₁.1 in
-    let p₃ = kept_of (keys_ascend t h (used_of t h)) 9 0 p₂.1 in
+    let p₁ = kept_of (table_chained t h) ChainRule _ e in
+    let p₂ = kept_of (counts_right t h (used_of t h)) WrongCount _ p₁.1 in
+    let p₃ = kept_of (keys_ascend t h (used_of t h)) KeyOrder kept p₂.1 in
     record { chains = p₁.0; counts = p₂.0; keys = p₃.0 }
 
-records_take : (t : List ℕ) (h : Header) → Kept t h → rules_answer t h ≡ 0
+records_take : (t : List ℕ) (h : Header) → Kept t h → rules_answer t h ≡ kept
 unfolding rules_answer tests_answer
 records_take t h k = rw (k.chains, k.counts, k.keys)
 
--- the header's number comes first
-answer_parts : (t : List ℕ) (room : ℕ) → table_answer t room ≡ 0 →
-    (header_refusal t ≡ 0) × (blocks_answer t (numbers_of t) room ≡ 0)
+-- the header's refusal comes first
+answer_parts : (t : List ℕ) (room : ℕ) → table_answer t room ≡ kept →
+    (header_refusal t ≡ kept) × (blocks_answer t (numbers_of t) room ≡ kept)
 unfolding table_answer header_first
 answer_parts t room e = unless_zero (header_refusal t) (blocks_answer t (numbers_of t) room) e
 
 -- an accepted table keeps 1 to 7: a call's answer is what comes after them
-pub header_kept : {A : Type 0} (t : List ℕ) (room : ℕ) → table_answer t room ≡ 0 → (refused : ℕ → A) (others : A) →
+pub header_kept : {A : Type 0} (t : List ℕ) (room : ℕ) → table_answer t room ≡ kept →
+    (refused : Refusal → A) (others : A) →
     header_first t refused others ≡ others
 unfolding header_first
 header_kept t room e refused others = unless_kept (header_refusal t) refused others (answer_parts t room e).0
 
-blocks_give : (t : List ℕ) (h : Header) (room : ℕ) → blocks_answer t h room ≡ 0 → Kept t h
+blocks_give : (t : List ℕ) (h : Header) (room : ℕ) → blocks_answer t h room ≡ kept → Kept t h
 unfolding blocks_answer
-blocks_give t h room e = records_give t h (kept_of (leb h.blocks room) 13 (rules_answer t h) e).1
+blocks_give t h room e = records_give t h (kept_of (leb h.blocks room) ShortBuffer (rules_answer t h) e).1
 
 -- ---- the tests are the propositions
 
@@ -97,13 +102,14 @@ module _ {t : List ℕ} (r : TableRules t) where
 
 module _ (t : List ℕ) (room : ℕ) where
   -- an accepted table meets the rules
-  pub table_gives : table_answer t room ≡ 0 → TableRules t
+  pub table_gives : table_answer t room ≡ kept → TableRules t
   unfolding counts_right
   table_gives e =
       let h = numbers_of t in
       let p = answer_parts t room e in
       let k = blocks_give t h room p.1 in
-      let c = both {a = counts_good t (shape_of h) (used_of t h)} {b = eqb (total t (shape_of h) (used_of t h)) h.records}
+      let c =
+      both {a = counts_good t (shape_of h) (used_of t h)} {b = eqb (total t (shape_of h) (used_of t h)) h.records}
       k.counts in
       record {
         header = accepted_gives t p.0;
@@ -119,7 +125,7 @@ module _ (t : List ℕ) (room : ℕ) where
       }
 
   -- a table that meets the rules is accepted, where the mark buffer has a byte for each block
-  pub table_takes : TableRules t → (numbers_of t).blocks ≤ room → table_answer t room ≡ 0
+  pub table_takes : TableRules t → (numbers_of t).blocks ≤ room → table_answer t room ≡ kept
   unfolding table_answer header_first blocks_answer counts_right
   table_takes r l =
       let h = numbers_of t in
@@ -136,18 +142,18 @@ module _ (t : List ℕ) (room : ℕ) where
             (eq-eqb (total t (shape_of h) r.used) h.records (s ∙ r.counts_sum)));
         keys = keys_take t h (λ y. rw (u, ← p) (r.keys y));
       } in
-      unless_kept (header_refusal t) (λ (n : ℕ). n) (blocks_answer t h room) z
+      unless_kept (header_refusal t) Err (blocks_answer t h room) z
       ∙ rw (le-leb h.blocks room l) (records_take t h k)
 
 -- with a mark for each block a table is accepted exactly when it meets the rules
 pub table_exactly : (t : List ℕ) (room : ℕ) → (numbers_of t).blocks ≤ room →
-    (table_answer t room ≡ 0 → TableRules t) × (TableRules t → table_answer t room ≡ 0)
+    (table_answer t room ≡ kept → TableRules t) × (TableRules t → table_answer t room ≡ kept)
 table_exactly t room l = (table_gives t room, λ r. table_takes t room r l)
 
 -- ---- what an accepted table gives
 
 -- behind an accepted header
-module _ (t : List ℕ) (h : Header) (a : Accepted t h) (room : ℕ) (e : blocks_answer t h room ≡ 0) where
+module _ (t : List ℕ) (h : Header) (a : Accepted t h) (room : ℕ) (e : blocks_answer t h room ≡ kept) where
   tests : Kept t h
   tests = blocks_give t h room e
 
@@ -157,7 +163,8 @@ module _ (t : List ℕ) (h : Header) (a : Accepted t h) (room : ℕ) (e : blocks
   pub accepted_blocks : AcceptedTable t h
   unfolding counts_right
   accepted_blocks =
-      let c = both {a = counts_good t (shape_of h) (used_of t h)} {b = eqb (total t (shape_of h) (used_of t h)) h.records}
+      let c =
+      both {a = counts_good t (shape_of h) (used_of t h)} {b = eqb (total t (shape_of h) (used_of t h)) h.records}
       tests.counts in
       let s = eqb-true (total t (shape_of h) (used_of t h)) h.records c.1 in
       record {
@@ -172,6 +179,6 @@ module _ (t : List ℕ) (h : Header) (a : Accepted t h) (room : ℕ) (e : blocks
         ascending = λ k. ascending_pairs (keys_of t h) (keys_give t h tests.keys k);
       }
 
-pub accepted_table : (t : List ℕ) (room : ℕ) → table_answer t room ≡ 0 → AcceptedTable t (numbers_of t)
+pub accepted_table : (t : List ℕ) (room : ℕ) → table_answer t room ≡ kept → AcceptedTable t (numbers_of t)
 accepted_table t room e =
     let p = answer_parts t room e in accepted_blocks t (numbers_of t) (accepted t p.0) room p.1

@@ -1,4 +1,5 @@
 -- The same links, the same marks; with the same counts and keys the same answer of the table check. Assumes nothing.
+use Rattle.std.specs.Prelude.{Option, Some, None, Err}
 use Prim.Native.Nat.{ℕ, zero, suc, ◌+◌, ◌<◌}
 use mathlib.Core.Path.{◌≡◌, refl, sym, ap, ◌∙◌, fun_ext}
 use mathlib.Core.Bool.{Bool, cond}
@@ -7,7 +8,9 @@ use native.Mathlib.Nat.{add-zero, zero-add}
 use native.Mathlib.Omega.{arith}
 use lib.Dec.{leb}
 use lib.ListN.{length, replicate, drop}
-use Rattle.header.specs.Refusals.{short_buffer, first_broken}
+use Rattle.header.specs.Refusals.{Verdict, kept, first_broken}
+use Rattle.header.specs.declared.refusal.Refusal.{Refusal}
+use Rattle.header.specs.declared.refusal.Refusal.TheVariants.{ShortBuffer}
 use Rattle.header.specs.Header.{header_refusal}
 use Rattle.header.specs.Numbers.{numbers_of}
 use Rattle.header.specs.Answers.{header_first}
@@ -15,8 +18,6 @@ use Rattle.header.specs.declared.Header.{Header}
 use Rattle.header.proofs.VerdictLaws.{unless_kept}
 use Rattle.blocks.specs.Shape.{shape_of}
 use Rattle.blocks.specs.Counts.{count_in}
-use Rattle.blocks.specs.declared.count.Count.{Count}
-use Rattle.blocks.specs.declared.count.Count.TheVariants.{Records, Bad}
 use Rattle.chain.specs.Chain.{chains_right}
 use Rattle.chain.specs.Links.{SameLinks, links_of, used_of}
 use Rattle.chain.specs.Marks.{unmarked, marks_of}
@@ -69,12 +70,12 @@ module _ (t : List ℕ) (h : Header) (u : List ℕ) (k : Header) (c : SameCounts
   before = key_at t (shape_of h) h.key_length
 
   -- the keys of the records that block b counts
-  block_keys : (b : ℕ) (d : Count) → count_in t (shape_of h) b ≡ d →
+  block_keys : (b : ℕ) (d : Option ℕ) → count_in t (shape_of h) b ≡ d →
       map now (places_from b 0 (held d)) ≡ map before (places_from b 0 (held d))
   unfolding held
-  block_keys b (Records n) e =
+  block_keys b (Some n) e =
       places_same now before b 0 n (λ i l. rw zero-add (s.keys b n i e l))
-  block_keys b Bad e = places_same now before b 0 0 (λ i l. absurd (omega arith))
+  block_keys b None e = places_same now before b 0 0 (λ i l. absurd (omega arith))
 
   pub keys_same : (bs : List ℕ) →
       keys_in u (shape_of k) k.key_length bs ≡ keys_in t (shape_of h) h.key_length bs
@@ -100,8 +101,8 @@ tests_same : {a b c : Bool} (a' b' c' : Bool) → a ≡ a' → b ≡ b' → c �
 tests_same a' b' c' e f g = rw (e, f, g)
 
 -- as many blocks, and the same answer of the rules
-room_same : {n a : ℕ} (n' a' room : ℕ) → n ≡ n' → a ≡ a' →
-    first_broken (leb n room) short_buffer a ≡ first_broken (leb n' room) short_buffer a'
+room_same : {n : ℕ} {a : Verdict} (n' : ℕ) (a' : Verdict) (room : ℕ) → n ≡ n' → a ≡ a' →
+    first_broken (leb n room) ShortBuffer a ≡ first_broken (leb n' room) ShortBuffer a'
 room_same n' a' room e f = rw (e, f)
 
 -- as many blocks, the same test of the chains and the same used blocks: the same marks
@@ -130,20 +131,20 @@ module _ (t : List ℕ) (h : Header) (u : List ℕ) (k : Header) (l : SameLinks 
       (ap (keys_ascend u k) e ∙ ascend_same t h u k c s used)
 
 -- of two files that keep rules 1 to 7
-module _ (t u : List ℕ) (e : header_refusal t ≡ 0) (f : header_refusal u ≡ 0)
+module _ (t u : List ℕ) (e : header_refusal t ≡ kept) (f : header_refusal u ≡ kept)
     (l : SameLinks t (numbers_of t) u (numbers_of u)) where
   pub table_marks_same : (m : List ℕ) → table_marks u m ≡ table_marks t m
   unfolding table_marks header_first
   table_marks_same m =
-      unless_kept (header_refusal u) (λ (n : ℕ). m) (buffer_after u (numbers_of u) m) f
+      unless_kept (header_refusal u) (λ (r : Refusal). m) (buffer_after u (numbers_of u) m) f
       ∙ buffer_same t (numbers_of t) u (numbers_of u) l m
-      ∙ sym (unless_kept (header_refusal t) (λ (n : ℕ). m) (buffer_after t (numbers_of t) m) e)
+      ∙ sym (unless_kept (header_refusal t) (λ (r : Refusal). m) (buffer_after t (numbers_of t) m) e)
 
   pub table_answer_same : SameCounts t (numbers_of t) u (numbers_of u) → SameKeys t (numbers_of t) u (numbers_of u) →
       (room : ℕ) → table_answer u room ≡ table_answer t room
   unfolding table_answer header_first blocks_answer
   table_answer_same c s room =
-      unless_kept (header_refusal u) (λ (n : ℕ). n) (blocks_answer u (numbers_of u) room) f
+      unless_kept (header_refusal u) Err (blocks_answer u (numbers_of u) room) f
       ∙ room_same (numbers_of t).blocks (rules_answer t (numbers_of t)) room l.blocks
       (rules_same t (numbers_of t) u (numbers_of u) l c s)
-      ∙ sym (unless_kept (header_refusal t) (λ (n : ℕ). n) (blocks_answer t (numbers_of t) room) e)
+      ∙ sym (unless_kept (header_refusal t) Err (blocks_answer t (numbers_of t) room) e)

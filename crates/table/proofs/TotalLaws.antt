@@ -1,5 +1,6 @@
 -- Request 10's bound: the counts of blocks of a table, none of them twice, add up to at most blocks * (block size - 6),
 -- as no block holds more records than it has bytes behind its head. Assumes nothing.
+use Rattle.std.specs.Prelude.{Option, Some, None}
 use Prim.Native.Nat.{ℕ, ◌-◌, ◌*◌, ◌≤◌}
 use mathlib.Core.Path.{◌≡◌, refl}
 use mathlib.Core.List.{List, [], ◌∷◌}
@@ -14,8 +15,6 @@ use Rattle.header.proofs.AcceptedLaws.{accepted, accepted_takes}
 use Rattle.blocks.specs.Shape.{shape_of, Sound}
 use Rattle.blocks.specs.Counts.{count_in}
 use Rattle.blocks.specs.declared.Shape.{Shape}
-use Rattle.blocks.specs.declared.count.Count.{Count}
-use Rattle.blocks.specs.declared.count.Count.TheVariants.{Records, Bad}
 use Rattle.blocks.proofs.ShapeLaws.{sound}
 use Rattle.blocks.proofs.CountLaws.{count_few}
 use Rattle.chain.specs.Chain.{times}
@@ -29,10 +28,10 @@ module _ (t : List ℕ) (g : Shape) (s : Sound t g) where
   bytes_behind = g.block_size - block_head
 
   -- a block holds no more records than it has bytes behind its head
-  held_most : (b : ℕ) (c : Count) → count_in t g b ≡ c → held c ≤ bytes_behind
+  held_most : (b : ℕ) (c : Option ℕ) → count_in t g b ≡ c → held c ≤ bytes_behind
   unfolding held
-  held_most b (Records n) e = omega (arith, count_few t g s b n e)
-  held_most b Bad e = omega arith
+  held_most b (Some n) e = omega (arith, count_few t g s b n e)
+  held_most b None e = omega arith
 
   total_length : (bs : List ℕ) → total t g bs ≤ length bs * bytes_behind
   unfolding total
@@ -47,7 +46,8 @@ module _ (t : List ℕ) (r : HeaderRules t (length t)) (bs : List ℕ) (inside :
   its = accepted t (accepted_takes t r)
 
   -- the counts add up to at most blocks * (block size - 6)
-  pub total_most : total t (shape_of (numbers_of t)) bs ≤ (numbers_of t).blocks * ((numbers_of t).block_size - block_head)
+  pub total_most :
+      total t (shape_of (numbers_of t)) bs ≤ (numbers_of t).blocks * ((numbers_of t).block_size - block_head)
   unfolding shape_of
   total_most =
       let h = numbers_of t in

@@ -7,7 +7,7 @@ use native.Mathlib.Nat.{not-suc-le-zero, le_of_suc-le-suc}
 use native.Mathlib.Omega.{arith}
 use lib.ListN.{length, get_or, length-map, get_or-map}
 use Rattle.words.specs.Order.{order}
-use Rattle.words.specs.declared.Order.TheVariants.{Less}
+use Rattle.std.specs.declared.cmp.Ordering.TheVariants.{Less}
 use Rattle.words.proofs.Cases.{lt_or_ge}
 use Rattle.words.proofs.OrderLaws.{order_refl, less≢same}
 use Rattle.header.specs.declared.Header.{Header}

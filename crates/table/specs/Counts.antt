@@ -1,20 +1,18 @@
 -- Count rules over the used blocks, a list of block numbers (refusal 9). Definitions only.
-use Rattle.std.specs.Prelude.{ℕ, ◌+◌, ◌-◌, ◌*◌, Bool, true, false, ◌&&◌, List, [], ◌∷◌, eqb}
+use Rattle.std.specs.Prelude.{ℕ, ◌+◌, ◌-◌, ◌*◌, Bool, true, false, ◌&&◌, List, [], ◌∷◌, eqb, Option, Some, None}
 use Rattle.header.specs.Header.{most_units, block_head, most_blocks}
 use Rattle.header.specs.Stored.{unit}
 use Rattle.header.specs.declared.Header.{Header}
 use Rattle.blocks.specs.Shape.{shape_of}
 use Rattle.blocks.specs.Counts.{count_in}
 use Rattle.blocks.specs.declared.Shape.{Shape}
-use Rattle.blocks.specs.declared.count.Count.{Count}
-use Rattle.blocks.specs.declared.count.Count.TheVariants.{Records, Bad}
 use Rattle.chain.specs.Chain.{every}
 use Rattle.table.specs.Records.{held}
 
 -- a block's count keeps the count rule
-unfoldable pub is_good : Count → Bool
-is_good (Records n) = true
-is_good Bad = false
+unfoldable pub is_good : Option ℕ → Bool
+is_good (Some n) = true
+is_good None = false
 
 -- the count of every one of some blocks is good
 abbrev pub counts_good : List ℕ → Shape → List ℕ → Bool

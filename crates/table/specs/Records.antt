@@ -1,11 +1,9 @@
 -- The records of a table, one after another in chain order. Places count from 0. Definitions only.
-use Rattle.std.specs.Prelude.{ℕ, zero, suc, ◌+◌, cond, ◌&&◌, List, [], ◌∷◌, ◌++◌, eqb}
+use Rattle.std.specs.Prelude.{ℕ, zero, suc, ◌+◌, cond, ◌&&◌, List, [], ◌∷◌, ◌++◌, eqb, Option, Some, None}
 use Rattle.header.specs.declared.Header.{Header}
 use Rattle.blocks.specs.Shape.{shape_of}
 use Rattle.blocks.specs.Counts.{count_in}
 use Rattle.blocks.specs.declared.Shape.{Shape}
-use Rattle.blocks.specs.declared.count.Count.{Count}
-use Rattle.blocks.specs.declared.count.Count.TheVariants.{Records, Bad}
 use Rattle.chain.specs.Links.{used_of}
 
 -- where a record is: its block and its place in it
@@ -14,9 +12,9 @@ pub record Position : Type 0 where
   pub place : ℕ
 
 -- how many records a count stands for: a bad one for none
-unfoldable pub held : Count → ℕ
-held (Records n) = n
-held Bad = 0
+unfoldable pub held : Option ℕ → ℕ
+held (Some n) = n
+held None = 0
 
 -- n places of block b, from a place on
 unfoldable pub places_from : ℕ → ℕ → ℕ → List Position

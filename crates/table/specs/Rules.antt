@@ -1,8 +1,10 @@
 -- The table rules as plain propositions, and what an accepted table gives the crates above. Definitions only.
-use Rattle.std.specs.Prelude.{ℕ, suc, ◌≤◌, ◌<◌, ◌≡◌, List, [], ◌++◌, length, get_or, replicate, drop}
+use Rattle.std.specs.Prelude.{ℕ, suc, ◌≤◌, ◌<◌, ◌≡◌, List, [], ◌++◌, length, get_or, replicate, drop, None, Err}
 use Rattle.words.specs.Order.{order}
-use Rattle.words.specs.declared.Order.TheVariants.{Less}
-use Rattle.header.specs.Refusals.{chain_rule, wrong_count, key_order, short_buffer}
+use Rattle.std.specs.declared.cmp.Ordering.TheVariants.{Less}
+use Rattle.header.specs.declared.refusal.Refusal.{Refusal}
+use Rattle.header.specs.declared.refusal.Refusal.TheVariants.{ChainRule, WrongCount, KeyOrder, ShortBuffer}
+use Rattle.header.specs.Refusals.{Verdict, kept}
 use Rattle.header.specs.Header.{header_refusal}
 use Rattle.header.specs.Numbers.{numbers_of}
 use Rattle.header.specs.Rules.{HeaderRules, Accepted}
@@ -11,7 +13,6 @@ use Rattle.blocks.specs.Shape.{shape_of}
 use Rattle.blocks.specs.Counts.{count_in}
 use Rattle.blocks.specs.Rules.{Holds}
 use Rattle.blocks.specs.declared.Shape.{Shape}
-use Rattle.blocks.specs.declared.count.Count.TheVariants.{Bad}
 use Rattle.chain.specs.Chain.{times}
 use Rattle.chain.specs.Links.{next_of, links_of, used_of}
 use Rattle.chain.specs.Marks.{unmarked, marks_of}
@@ -58,7 +59,7 @@ pub record AcceptedTable (t : List ℕ) (h : Header) : Type 0 where
   pub once : (b : ℕ) → times b (used_of t h) ≤ 1
   pub few_blocks : length (used_of t h) ≤ h.blocks
   -- their counts are good and add up to the header's, which is the length of the list of records
-  pub counts : (i : ℕ) → i < length (used_of t h) → count_in t (shape_of h) (get_or (used_of t h) i 0) ≡ Bad → ⊥
+  pub counts : (i : ℕ) → i < length (used_of t h) → count_in t (shape_of h) (get_or (used_of t h) i 0) ≡ None → ⊥
   pub sum : total t (shape_of h) (used_of t h) ≡ h.records
   pub records : length (records_of t h) ≡ h.records
   -- with key fields, of any two records the earlier has the lesser key
@@ -71,14 +72,14 @@ pub record AcceptedTable (t : List ℕ) (h : Header) : Type 0 where
 abbrev pub noted : List ℕ → List ℕ → List ℕ
 noted t m = marks_of (numbers_of t).blocks (used_of t (numbers_of t)) ++ drop (numbers_of t).blocks m
 
--- an answer, and what the buffer holds then
-pub data MarksLeft (t m : List ℕ) : ℕ → List ℕ → Type 0 where
-  -- the header's number (1 to 7), and 14: unchanged
-  by_header : {a : ℕ} → header_refusal t ≡ a → 1 ≤ a → MarksLeft t m a m
-  by_buffer : MarksLeft t m short_buffer m
+-- a verdict, and what the buffer holds then
+pub data MarksLeft (t m : List ℕ) : Verdict → List ℕ → Type 0 where
+  -- the header's refusal (1 to 7), and 14: unchanged
+  by_header : {r : Refusal} → header_refusal t ≡ Err r → MarksLeft t m (Err r) m
+  by_buffer : MarksLeft t m (Err ShortBuffer) m
   -- 8: the mark of every block is 0
-  by_chains : MarksLeft t m chain_rule (replicate (numbers_of t).blocks unmarked ++ drop (numbers_of t).blocks m)
+  by_chains : MarksLeft t m (Err ChainRule) (replicate (numbers_of t).blocks unmarked ++ drop (numbers_of t).blocks m)
   -- 9, 10 and acceptance: 1 for a used block and 2 for a free one
-  by_counts : MarksLeft t m wrong_count (noted t m)
-  by_keys : MarksLeft t m key_order (noted t m)
-  accepting : MarksLeft t m 0 (noted t m)
+  by_counts : MarksLeft t m (Err WrongCount) (noted t m)
+  by_keys : MarksLeft t m (Err KeyOrder) (noted t m)
+  accepting : MarksLeft t m kept (noted t m)

@@ -1,10 +1,9 @@
 -- What two tables, each with the numbers of a header, are to have in common for the table check to answer alike.
 -- Definitions only.
-use Rattle.std.specs.Prelude.{ℕ, ◌<◌, ◌≡◌, List}
+use Rattle.std.specs.Prelude.{ℕ, ◌<◌, ◌≡◌, List, Some}
 use Rattle.header.specs.declared.Header.{Header}
 use Rattle.blocks.specs.Shape.{shape_of}
 use Rattle.blocks.specs.Counts.{count_in}
-use Rattle.blocks.specs.declared.count.Count.TheVariants.{Records}
 use Rattle.table.specs.Keys.{key_at}
 
 -- the same count of every block, and the same record count in the header
@@ -15,6 +14,6 @@ pub record SameCounts (t : List ℕ) (h : Header) (u : List ℕ) (k : Header) : 
 -- the same key of every record that a block counts, and the same number of key fields
 pub record SameKeys (t : List ℕ) (h : Header) (u : List ℕ) (k : Header) : Type 0 where
   pub fields : k.key_fields ≡ h.key_fields
-  pub keys : (b n i : ℕ) → count_in t (shape_of h) b ≡ Records n → i < n →
+  pub keys : (b n i : ℕ) → count_in t (shape_of h) b ≡ Some n → i < n →
       key_at u (shape_of k) k.key_length (record { block = b; place = i })
       ≡ key_at t (shape_of h) h.key_length (record { block = b; place = i })

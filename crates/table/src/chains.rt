@@ -1,45 +1,31 @@
 // Both chains: the used one followed, then the free one; then every block must have a mark.
 // The module is private: its function is a helper of the check, which meets what it requires.
-ghost use Rattle.table.specs.Steps.{ChainsMarked, Markable};
+ghost use Rattle.std.specs.Prelude.{◌≡◌, replicate};
+ghost use Rattle.chain.specs.Marks.{unmarked};
+ghost use Rattle.table.specs.Steps.{ChainsMarked};
 
 use crate::free::follow_free;
-use crate::tally::Tally;
-use crate::used::follow_used;
+use crate::used::{UsedChain, follow_used};
+use blocks::BlockFile;
 use chain::marks;
-use header::Header;
+use header::Table;
 
-// What the chains of a table come to.
-#[derive(Clone, Copy)]
-pub struct Chains {
-    // They keep the chain rules.
-    pub right: bool,
-    // What the used blocks come to, where the chains are right.
-    pub tally: Tally,
-}
-
-// Marks the used and the free blocks, where no block has a mark yet.
-pub fn mark_chains(table: &[u8], h: Header, marks: &mut [u8]) -> Chains
-    requires { Markable table.now h marks.old }
-    ensures { ChainsMarked table.now h result marks.new }
+// Marks the used and the free blocks, where no block has a mark yet; the used chain, if both keep the chain rules.
+pub fn mark_chains(table: &Table, marks: &mut [u8]) -> Option<UsedChain>
+    requires { marks.old ≡ replicate table.now.header.blocks unmarked }
+    ensures { ChainsMarked table.now.bytes.now table.now.header result marks.new }
 {
-    let shape = blocks::shape_of(h);
-    let used = follow_used(table, shape, h.key_length as usize, h.first as usize, marks);
-    let tally = used.tally;
-    let right = used.whole & (used.last == h.last as usize);
-    if !right {
-        return Chains {
-            right: false,
-            tally,
-        };
+    let h = &table.header;
+    let file = BlockFile::of(table);
+    let used = follow_used(&file, h.key_length as usize, h.first as usize, marks)?;
+    if used.last != h.last as usize {
+        return None;
     }
-    if !follow_free(table, shape, h.free as usize, marks) {
-        return Chains {
-            right: false,
-            tally,
-        };
+    if !follow_free(&file, h.free as usize, marks) {
+        return None;
     }
-    Chains {
-        right: marks::all_marked(marks),
-        tally,
+    if !marks::all_marked(marks) {
+        return None;
     }
+    Some(used)
 }

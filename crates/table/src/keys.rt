@@ -5,12 +5,13 @@ ghost use Rattle.blocks.specs.Shape.{RunInside};
 ghost use Rattle.table.specs.declared.keys.Keys.TheVariants.{Last};
 ghost use Rattle.table.specs.Steps.{KeyInside, is_ordered, keys_after, run_after};
 
-use blocks::Shape;
+use blocks::BlockFile;
 
 // The keys passed so far.
 #[derive(Clone, Copy)]
 pub enum Keys {
-    None,
+    // There was none.
+    Empty,
     // Each was less than the next; where the last one stands.
     Last(usize),
     // One was not less than the next.
@@ -19,28 +20,18 @@ pub enum Keys {
 
 impl Keys {
     // Whether each key was less than the next.
+    #[tactic(auto, unfolding(crate::specs::Steps::is_ordered))]
     pub fn is_ordered(self) -> bool
         ensures { result ≡ is_ordered self }
     {
-        match self {
-            Keys::None => true,
-            Keys::Last(_) => true,
-            Keys::Unordered => false,
-        }
+        !matches!(self, Keys::Unordered)
     }
 }
 
 // The keys passed, with those of a block's `count` records; of key length 0 no key is looked at.
-pub fn with_records(
-    table: &[u8],
-    shape: Shape,
-    key: usize,
-    keys: Keys,
-    block: usize,
-    count: usize,
-) -> Keys
-    requires { RunInside table.now shape key block count × KeyInside table.now key keys }
-    ensures { result ≡ run_after table.now shape key block count keys }
+pub fn with_records(file: &BlockFile, key: usize, keys: Keys, block: usize, count: usize) -> Keys
+    requires { RunInside file.now.bytes.now file.now.shape key block count × KeyInside file.now.bytes.now key keys }
+    ensures { result ≡ run_after file.now.bytes.now file.now.shape key block count keys }
 {
     if key == 0 {
         return keys;
@@ -49,11 +40,11 @@ pub fn with_records(
         return keys;
     }
     match keys {
-        Keys::None => {
-            let first = blocks::record_at(shape, block, 0);
-            ascend(table, shape, key, first, block, 1, count)
+        Keys::Empty => {
+            let first = file.shape.record_at(block, 0);
+            ascend(file, key, first, block, 1, count)
         }
-        Keys::Last(before) => ascend(table, shape, key, before, block, 0, count),
+        Keys::Last(before) => ascend(file, key, before, block, 0, count),
         Keys::Unordered => Keys::Unordered,
     }
 }
@@ -61,26 +52,26 @@ pub fn with_records(
 // The keys of a block's records from a place on, after a key that stands at `before`. It ends at the first
 // key that is not greater than the one before it.
 fn ascend(
-    table: &[u8],
-    shape: Shape,
+    file: &BlockFile,
     key: usize,
     before: usize,
     block: usize,
     from: usize,
     count: usize,
 ) -> Keys
-    requires { RunInside table.now shape key block count × (before + key ≤ length table.now) × (from ≤ count) }
-    ensures { result ≡ keys_after table.now shape key block from (count - from) (Last before) }
+    requires run_inside { RunInside file.now.bytes.now file.now.shape key block count }
+    requires before_inside { before + key ≤ length file.now.bytes.now }
+    requires from_bound { from ≤ count }
+    ensures { result ≡ keys_after file.now.bytes.now file.now.shape key block from (count - from) (Last before) }
 {
+    let bytes = file.bytes;
     let mut last = before;
-    let mut place = from;
-    while place < count {
-        let at = blocks::record_at(shape, block, place);
-        if !words::compare(table, last, table, at, key).is_less() {
+    for place in from..count {
+        let at = file.shape.record_at(block, place);
+        if !words::compare(bytes, last, bytes, at, key).is_lt() {
             return Keys::Unordered;
         }
         last = at;
-        place += 1;
     }
     Keys::Last(last)
 }

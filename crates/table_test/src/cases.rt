@@ -1,15 +1,17 @@
 // The cases one after another. Of a case is printed: its name, the answer, and all 8 marks afterwards, lent or not; or
 // its name and the answers that it asks for by `!`, with all lent.
-use test_lines::lines::{Buffer, CASE, Line, SIZE, TABLE_SIZE, answered, end, fresh, part, step};
-use test_lines::print::{bytes, letter, number};
+use test_lines::cases::Cases;
+use test_lines::lines::{Buffer, Line, TABLE_SIZE, part};
+use test_lines::print::{bytes, letter, verdict};
 
-// Shows the answer for a table and the first marks. More marks than there are cannot be lent.
+// Shows the answer for a table and the first marks: 0, or the refusal's number. More marks than there are cannot be
+// lent.
 fn answer(table: &[u8], marks: &mut [u8], most: usize) {
-    if marks.len() < most {
+    let Some(lent) = marks.get_mut(..most) else {
         return;
-    }
+    };
     letter(b' ');
-    number(table::check(table, &mut marks[..most]) as u16);
+    verdict(table::check(table, lent));
 }
 
 // The answer and the marks.
@@ -26,30 +28,26 @@ fn ask(t: &Buffer) {
     answer(part(t, TABLE_SIZE), &mut marks, 8);
 }
 
-// Takes a byte of the cases.
-fn feed(t: &mut Buffer, first: &mut Buffer, line: Line, b: u8) -> Line {
-    if b == b'\n' {
-        if line.kind == CASE {
-            show(t, line);
-        }
-        return end(t, first, line);
-    }
-    let l = step(t, line, b);
-    if l.command == b'!' {
-        ask(t);
-        return answered(l);
-    }
-    l
-}
+// What this program does with its cases.
+#[derive(Drop)]
+pub struct Tables;
 
-// Shows the cases of some lines; the first table is zero.
-pub fn run(lines: &[u8]) {
-    let mut t = [0u8; SIZE];
-    let mut first = [0u8; SIZE];
-    let mut line = fresh();
-    let mut i: usize = 0;
-    while i < lines.len() {
-        line = feed(&mut t, &mut first, line, lines[i]);
-        i += 1;
+impl Cases for Tables {
+    fn ready(&self) -> Line {
+        Line::fresh()
+    }
+
+    fn show(&self, t: &Buffer, line: Line) {
+        show(t, line);
+    }
+
+    fn keep(&mut self, _line: Line) {}
+
+    fn act(&mut self, t: &mut Buffer, line: Line) -> Line {
+        if line.command == Some(b'!') {
+            ask(t);
+            return line.answered();
+        }
+        line
     }
 }

@@ -5,10 +5,12 @@
 
 mod cases;
 
+use cases::Tables;
+use test_lines::cases::run;
 use test_lines::print::STDIN_FILENO;
 
 fn main() {
     let mut text = io::large_buffer();
     let n = io::read_full(STDIN_FILENO, &mut text);
-    cases::run(&text[..n]);
+    run(&mut Tables, &text[..n]);
 }

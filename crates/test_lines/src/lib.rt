@@ -3,5 +3,6 @@
 #![tactic(auto)]
 
 pub mod after;
+pub mod cases;
 pub mod lines;
 pub mod print;

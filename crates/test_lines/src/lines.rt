@@ -6,29 +6,29 @@
 // A line that begins with `>` has no name: its changes stay for the cases that follow. `#` begins a comment.
 use crate::print::letter;
 
-// What the next byte belongs to.
-const START: u8 = 0;
+// What the next byte belongs to; the low digit of a byte comes behind its high one.
+#[derive(Clone, Copy)]
+enum Mode {
+    Start,
+    Name,
+    Number,
+    High,
+    Low { high: u8 },
+    Text,
+    Comment,
+}
 
-const NAME: u8 = 1;
-
-const NUMBER: u8 = 2;
-
-const HIGH: u8 = 3;
-
-const LOW: u8 = 4;
-
-const TEXT: u8 = 5;
-
-const COMMENT: u8 = 6;
-
-// What the line is: nothing or a comment, a case, a case with answers shown, or changes that stay.
-const NOTHING: u8 = 0;
-
-pub const CASE: u8 = 1;
-
-const SHOWN: u8 = 2;
-
-const TABLE: u8 = 3;
+// What a line is.
+#[derive(Clone, Copy, PartialEq, Eq)]
+enum Kind {
+    // Empty so far, or a comment.
+    Nothing,
+    Case,
+    // A case with answers shown.
+    Shown,
+    // Changes that stay.
+    Table,
+}
 
 // The table's bytes, and all bytes that the cases change: behind the table stands what a program has besides.
 pub const TABLE_SIZE: usize = 6400;
@@ -37,13 +37,12 @@ pub const SIZE: usize = 32768;
 
 pub type Buffer = [u8; SIZE];
 
-// A line as far as it is read. `command` is the letter just read where that is the program's, otherwise 0; `number` is
-// the number or place before it, `first` and `second` are numbers before that one. `marks`, `long`, `index` and `fill`
-// say what is lent.
+// A line as far as it is read. `command` is the letter just read where that is the program's; `number` is the number or
+// place before it, `first` and `second` are numbers before that one. `marks`, `long`, `index` and `fill` say what is
+// lent.
 #[derive(Clone, Copy)]
 pub struct Line {
-    pub kind: u8,
-    pub command: u8,
+    pub command: Option<u8>,
     pub first: usize,
     pub second: usize,
     pub number: usize,
@@ -51,69 +50,73 @@ pub struct Line {
     pub long: usize,
     pub index: usize,
     pub fill: u8,
-    mode: u8,
-    high: u8,
+    kind: Kind,
+    mode: Mode,
 }
 
-pub fn fresh() -> Line {
-    Line {
-        kind: NOTHING,
-        command: 0,
-        first: 0,
-        second: 0,
-        number: 0,
-        marks: 8,
-        long: TABLE_SIZE,
-        index: 0,
-        fill: 0xaa,
-        mode: START,
-        high: 0,
+impl Line {
+    pub fn fresh() -> Line {
+        Line {
+            command: None,
+            first: 0,
+            second: 0,
+            number: 0,
+            marks: 8,
+            long: TABLE_SIZE,
+            index: 0,
+            fill: 0xaa,
+            kind: Kind::Nothing,
+            mode: Mode::Start,
+        }
     }
-}
 
-// The line after a command that showed an answer.
-pub fn answered(line: Line) -> Line {
-    let mut l = line;
-    l.kind = SHOWN;
-    l.number = 0;
-    l
-}
+    // The line after a command that showed an answer.
+    pub fn answered(self) -> Line {
+        Line {
+            kind: Kind::Shown,
+            number: 0,
+            ..self
+        }
+    }
 
-// The line after a command that showed nothing. The next number or place is `number` until another one is read.
-pub fn noted(line: Line, number: usize) -> Line {
-    let mut l = line;
-    l.number = number;
-    l
-}
+    // The line after a command that showed nothing. The next number or place is `number` until another one is read.
+    pub fn noted(self, number: usize) -> Line {
+        Line { number, ..self }
+    }
 
-// Whether the line's changes stay for the cases that follow.
-pub fn stays(line: Line) -> bool {
-    line.kind == TABLE
+    // Whether the line is a case that has shown no answer.
+    pub fn is_unanswered(self) -> bool {
+        self.kind == Kind::Case
+    }
+
+    // Whether the line's changes stay for the cases that follow.
+    pub fn stays(self) -> bool {
+        self.kind == Kind::Table
+    }
+
+    fn within(self, mode: Mode) -> Line {
+        Line { mode, ..self }
+    }
 }
 
 // The end of a line. Changes that stay are kept, and the next line starts from them.
-pub fn end(t: &mut Buffer, first: &mut Buffer, line: Line) -> Line {
-    let kind = line.kind;
-    if kind == TABLE {
-        *first = *t;
-    }
-    if (kind == CASE) | (kind == SHOWN) {
-        letter(b'\n');
+pub fn end(t: &mut Buffer, first: &mut Buffer, line: Line) {
+    match line.kind {
+        Kind::Nothing => {}
+        Kind::Table => *first = *t,
+        Kind::Case | Kind::Shown => letter(b'\n'),
     }
     *t = *first;
-    fresh()
 }
 
-fn is_digit(b: u8) -> bool {
-    ((b'0' <= b) & (b <= b'9')) | ((b'a' <= b) & (b <= b'f'))
+// The value of a hexadecimal digit; of any other byte what its bits come to.
+fn value(b: u8) -> u8 {
+    if b < b'a' { b % 16 } else { (b % 16 + 9) % 16 }
 }
 
-// The value of a hexadecimal digit.
-fn digit(b: u8) -> u8 {
-    if b < b'a' {
-        return b % 16;
-    }
-    (b % 16 + 9) % 16
+// The value of a byte that is a hexadecimal digit.
+fn digit(b: u8) -> Option<u8> {
+    matches!(b, b'0'..=b'9' | b'a'..=b'f').then_some(value(b))
 }
 
 // Stores a byte and answers the place behind it. A place outside the buffer is left out.
@@ -128,110 +131,107 @@ pub fn store(t: &mut Buffer, at: usize, b: u8) -> usize {
 // A name is printed as it is read.
 fn name(line: Line, b: u8) -> Line {
     letter(b);
-    let mut l = line;
     if b == b':' {
-        l.mode = NUMBER;
+        return line.within(Mode::Number);
     }
-    l
+    line
 }
 
 // The first byte of the line says what it is.
 fn start(line: Line, b: u8) -> Line {
-    let mut l = line;
-    if b == b'#' {
-        l.mode = COMMENT;
-        return l;
+    match b {
+        b'#' => line.within(Mode::Comment),
+        b'>' => Line {
+            kind: Kind::Table,
+            mode: Mode::Number,
+            ..line
+        },
+        _ => {
+            let case = Line {
+                kind: Kind::Case,
+                mode: Mode::Name,
+                ..line
+            };
+            name(case, b)
+        }
     }
-    if b == b'>' {
-        l.kind = TABLE;
-        l.mode = NUMBER;
-        return l;
-    }
-    l.kind = CASE;
-    l.mode = NAME;
-    name(l, b)
 }
 
 // A digit of a number, or the byte that says what the number is for.
 fn number(t: &mut Buffer, line: Line, b: u8) -> Line {
-    let mut l = line;
-    if is_digit(b) {
-        l.number = l.number % 4096 * 16 + digit(b) as usize;
-        return l;
+    if let Some(value) = digit(b) {
+        return line.noted(line.number % 4096 * 16 + value as usize);
     }
+    let n = line.number;
     match b {
-        b' ' => l.number = 0,
-        b'=' => l.mode = HIGH,
-        b'\'' => l.mode = TEXT,
-        b'z' => *t = [0u8; SIZE],
-        b'm' => l.marks = l.number,
-        b't' => l.long = l.number,
-        b'i' => l.index = l.number,
-        b'p' => l.fill = (l.number % 256) as u8,
-        _ => l.command = b,
+        0 => line,
+        b' ' => line.noted(0),
+        b'=' => line.within(Mode::High),
+        b'\'' => line.within(Mode::Text),
+        b'z' => {
+            *t = [0u8; SIZE];
+            line
+        }
+        b'm' => Line { marks: n, ..line },
+        b't' => Line { long: n, ..line },
+        b'i' => Line { index: n, ..line },
+        b'p' => Line {
+            fill: (n % 256) as u8,
+            ..line
+        },
+        _ => Line {
+            command: Some(b),
+            ..line
+        },
     }
-    l
 }
 
 // The high digit of the next byte. What is no digit ends the bytes.
 fn high(t: &mut Buffer, line: Line, b: u8) -> Line {
-    let mut l = line;
-    if is_digit(b) {
-        l.high = digit(b);
-        l.mode = LOW;
-        return l;
+    match digit(b) {
+        Some(high) => line.within(Mode::Low { high }),
+        None => number(t, line.within(Mode::Number), b),
     }
-    l.mode = NUMBER;
-    number(t, l, b)
 }
 
 // The low digit, which completes a byte.
-fn low(t: &mut Buffer, line: Line, b: u8) -> Line {
-    let mut l = line;
-    l.number = store(t, l.number, l.high % 16 * 16 + digit(b) % 16);
-    l.mode = HIGH;
-    l
+fn low(t: &mut Buffer, line: Line, high: u8, b: u8) -> Line {
+    let behind = store(t, line.number, high % 16 * 16 + value(b) % 16);
+    line.noted(behind).within(Mode::High)
 }
 
 // A byte of text; a quote ends it.
 fn text(t: &mut Buffer, line: Line, b: u8) -> Line {
-    let mut l = line;
     if b == b'\'' {
-        l.mode = NUMBER;
-        return l;
+        return line.within(Mode::Number);
     }
-    l.number = store(t, l.number, b);
-    l
+    let behind = store(t, line.number, b);
+    line.noted(behind)
 }
 
 // Takes a byte of the line.
 pub fn step(t: &mut Buffer, line: Line, b: u8) -> Line {
-    let mut l = line;
-    l.command = 0;
-    let mode = l.mode;
-    match mode {
-        START => start(l, b),
-        NAME => name(l, b),
-        NUMBER => number(t, l, b),
-        HIGH => high(t, l, b),
-        LOW => low(t, l, b),
-        TEXT => text(t, l, b),
-        _ => l,
+    let next = Line {
+        command: None,
+        ..line
+    };
+    match line.mode {
+        Mode::Start => start(next, b),
+        Mode::Name => name(next, b),
+        Mode::Number => number(t, next, b),
+        Mode::High => high(t, next, b),
+        Mode::Low { high } => low(t, next, high, b),
+        Mode::Text => text(t, next, b),
+        Mode::Comment => next,
     }
 }
 
 // The first n bytes, or all of them where there are fewer.
 pub fn part(s: &[u8], n: usize) -> &[u8] {
-    if n < s.len() {
-        return &s[..n];
-    }
-    s
+    &s[..n.min(s.len())]
 }
 
 // The bytes from place n on; none where there are fewer.
 pub fn behind(s: &[u8], n: usize) -> &[u8] {
-    if n < s.len() {
-        return &s[n..];
-    }
-    &s[..0]
+    &s[n.min(s.len())..]
 }

@@ -1,4 +1,6 @@
 // Names, answers and marks as text. No contract can say what is written: it is compared with the file `stdout`.
+use header::Refusal;
+
 // The descriptors of standard input and output.
 pub const STDIN_FILENO: i32 = 0;
 
@@ -13,12 +15,22 @@ pub fn letter(b: u8) {
     say(&s);
 }
 
-pub fn number(n: u16) {
-    decimal(n as u64);
+pub fn number<N: Into<u64>>(n: N) {
+    io::print_decimal(STDOUT_FILENO, n.into());
 }
 
-pub fn decimal(n: u64) {
-    io::print_decimal(STDOUT_FILENO, n);
+// A refusal behind an exclamation mark, `!13`.
+pub fn refused(refusal: Refusal) {
+    letter(b'!');
+    number(u8::from(refusal));
+}
+
+// 0, or the refusal's number.
+pub fn verdict(answer: Result<(), Refusal>) {
+    match answer {
+        Ok(()) => letter(b'0'),
+        Err(refusal) => number(u8::from(refusal)),
+    }
 }
 
 // A byte as two hex digits.
@@ -27,9 +39,7 @@ fn byte(n: u8) {
 }
 
 pub fn bytes(s: &[u8]) {
-    let mut i: usize = 0;
-    while i < s.len() {
-        byte(s[i]);
-        i += 1;
+    for b in s {
+        byte(*b);
     }
 }

@@ -7,10 +7,11 @@ use native.Mathlib.Nat.{le_antisymm}
 use native.Mathlib.Omega.{arith}
 use lib.ListN.{length, drop, length-drop}
 use lib.Seq.{take-suc, get_or-drop}
-use borrow.Author.Tests.{lt-ltb, le-ltb}
+use borrow.Author.Tests.{lt-ltb, le-ltb, eq-eqb, ne_eqb}
+use Rattle.std.specs.Ordering.{nat_cmp, ordering_then}
 use Rattle.words.specs.Numbers.{byte, Bytes, big, digits}
 use Rattle.words.specs.Order.{number_order, NotLater, order, range}
-use Rattle.words.specs.declared.Order.TheVariants.{Less, Same, More}
+use Rattle.std.specs.declared.cmp.Ordering.TheVariants.{Less, Equal, Greater}
 use Rattle.words.proofs.Cases.{compared, lt_or_ge}
 use Rattle.words.proofs.DigitLaws.{digits_big}
 use Rattle.words.proofs.OrderLaws.{less≢same, more≢less, more≢same, not_later_cases, order_refl}
@@ -68,7 +69,7 @@ number_less m n h =
     (λ e. absurd (less≢same (sym h ∙ rw (e, le-ltb n n (omega arith)))))
     (λ l. absurd (more≢less (sym (rw (le-ltb m n (omega arith), lt-ltb n m l)) ∙ h)))
 
-number_same : (m n : ℕ) → number_order m n ≡ Same → m ≡ n
+number_same : (m n : ℕ) → number_order m n ≡ Equal → m ≡ n
 unfolding number_order
 number_same m n h =
     compared m n
@@ -134,7 +135,7 @@ module _ (a b : List ℕ) (p q n i : ℕ) (h : 8 ≤ n - i) (j : p + n ≤ lengt
       (big_less a b (p + i) (q + i) bytes others 8 (omega arith) (omega arith) l (rest a p n (i + 8))
       (rest b q n (i + 8)))
 
-  pub eight_more : big b (q + i) 8 < big a (p + i) 8 → order (rest a p n i) (rest b q n i) ≡ More
+  pub eight_more : big b (q + i) 8 < big a (p + i) 8 → order (rest a p n i) (rest b q n i) ≡ Greater
   unfolding turned
   eight_more l =
       rw (eight_first a p, eight_first b q)
@@ -148,3 +149,14 @@ module _ (a b : List ℕ) (p q n i : ℕ) (h : 8 ≤ n - i) (j : p + n ≤ lengt
       rw (eight_first a p, eight_first b q)
       (rw (big_equal a b (p + i) (q + i) bytes others 8 (omega arith) (omega arith) (le_antisymm m l))
       (order_behind (range b (q + i) 8) (rest a p n (i + 8)) (rest b q n (i + 8))))
+
+  -- they decide, and where they are the same what stands behind them does
+  pub eight_then : order (rest a p n i) (rest b q n i)
+      ≡ ordering_then (nat_cmp (big a (p + i) 8) (big b (q + i) 8)) (order (rest a p n (i + 8)) (rest b q n (i + 8)))
+  eight_then =
+      let u = big a (p + i) 8 in
+      let v = big b (q + i) 8 in
+      compared u v
+      (λ l. rw (lt-ltb u v l) (eight_less l))
+      (λ e. rw (le-ltb u v (omega arith), eq-eqb u v e) (eight_same (omega arith) (omega arith)))
+      (λ l. rw (le-ltb u v (omega arith), ne_eqb u v (omega arith)) (eight_more l))

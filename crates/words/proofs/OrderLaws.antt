@@ -7,43 +7,54 @@ use native.Mathlib.Nat.{le_antisymm}
 use native.Mathlib.Omega.{arith}
 use lib.Dec.{ltb}
 use lib.ListN.{length}
-use borrow.Author.Tests.{ltb-true, ltb-false, lt-ltb, le-ltb}
+use borrow.Author.Tests.{ltb-true, ltb-false, lt-ltb, le-ltb, eq-eqb, ne_eqb}
+use Rattle.words.proofs.Cases.{compared}
 use Rattle.words.specs.Order.{is_at_most, is_less, is_same, NotLater, order}
-use Rattle.words.specs.declared.Order.{Order}
-use Rattle.words.specs.declared.Order.TheVariants.{Less, Same, More}
+use Rattle.std.specs.Cmp.Lexicographic.{slice_cmp}
+use Rattle.std.specs.Ordering.{is_ne, nat_cmp, ordering_then}
+use Rattle.std.specs.declared.cmp.Ordering.{Ordering}
+use Rattle.std.specs.declared.cmp.Ordering.TheVariants.{Less, Equal, Greater}
 
-pub more≢less : More ≡ Less → ⊥
+pub more≢less : Greater ≡ Less → ⊥
 more≢less e = let z : ◌≡◌ {A = ℕ} 0 1 = cc in omega arith
 
-pub more≢same : More ≡ Same → ⊥
+pub more≢same : Greater ≡ Equal → ⊥
 more≢same e = let z : ◌≡◌ {A = ℕ} 0 1 = cc in omega arith
 
-pub less≢same : Less ≡ Same → ⊥
+pub less≢same : Less ≡ Equal → ⊥
 less≢same e = let z : ◌≡◌ {A = ℕ} 0 1 = cc in omega arith
 
 -- ---- what the tests of an order say
 
-pub is_less_lem : (o : Order) → is_less o ≡ true → o ≡ Less
-unfolding is_less
+pub is_less_lem : (o : Ordering) → is_less o ≡ true → o ≡ Less
 is_less_lem Less e = refl
-is_less_lem Same e = absurd (false≢true e)
-is_less_lem More e = absurd (false≢true e)
+is_less_lem Equal e = absurd (false≢true e)
+is_less_lem Greater e = absurd (false≢true e)
 
-pub is_same_lem : (o : Order) → is_same o ≡ true → o ≡ Same
-unfolding is_same
+pub is_same_lem : (o : Ordering) → is_same o ≡ true → o ≡ Equal
 is_same_lem Less e = absurd (false≢true e)
-is_same_lem Same e = refl
-is_same_lem More e = absurd (false≢true e)
+is_same_lem Equal e = refl
+is_same_lem Greater e = absurd (false≢true e)
 
-pub at_most : (o : Order) → is_at_most o ≡ true → o ≡ More → ⊥
-unfolding is_at_most
+pub at_most : (o : Ordering) → is_at_most o ≡ true → o ≡ Greater → ⊥
 at_most o e f = false≢true (rw f at e)
 
-pub not_at_most : (o : Order) → is_at_most o ≡ false → o ≡ More
-unfolding is_at_most
+pub not_at_most : (o : Ordering) → is_at_most o ≡ false → o ≡ Greater
 not_at_most Less e = absurd (false≢true (sym e))
-not_at_most Same e = absurd (false≢true (sym e))
-not_at_most More e = refl
+not_at_most Equal e = absurd (false≢true (sym e))
+not_at_most Greater e = refl
+
+-- ---- an order that decides, or leaves it to another
+
+pub then_ne : (o r : Ordering) → is_ne o ≡ true → ordering_then o r ≡ o
+then_ne Less r e = refl
+then_ne Equal r e = absurd (false≢true e)
+then_ne Greater r e = refl
+
+pub then_eq : (o r : Ordering) → is_ne o ≡ false → ordering_then o r ≡ r
+then_eq Less r e = absurd (false≢true (sym e))
+then_eq Equal r e = refl
+then_eq Greater r e = absurd (false≢true (sym e))
 
 -- ---- the order of two ranges
 
@@ -66,22 +77,35 @@ pub order_rest : (x : ℕ) (xs ys : List ℕ) → order (x ∷ xs) (x ∷ ys) �
 unfolding order
 order_rest x xs ys = let e : ltb x x ≡ false = le-ltb x x (omega arith) in rw e
 
+-- std's order of two slices of bytes
+pub slices_order : (a b : List ℕ) → slice_cmp nat_cmp a b ≡ order a b
+unfolding order
+slices_order [] [] = refl
+slices_order [] (y ∷ ys) = refl
+slices_order (x ∷ xs) [] = refl
+slices_order (x ∷ xs) (y ∷ ys) =
+    rw (slices_order xs ys)
+    (compared x y
+    (λ l. rw (lt-ltb x y l))
+    (λ e. rw (le-ltb x y (omega arith), le-ltb y x (omega arith), eq-eqb x y e))
+    (λ l. rw (le-ltb x y (omega arith), ne_eqb x y (omega arith), lt-ltb y x l)))
+
 -- equal ranges compare as the same
-pub order_refl : (a : List ℕ) → order a a ≡ Same
+pub order_refl : (a : List ℕ) → order a a ≡ Equal
 unfolding order
 order_refl [] = refl
 order_refl (x ∷ xs) = order_rest x xs xs ∙ order_refl xs
 
 -- ranges that compare as the same are equal
-pub order_same : (a b : List ℕ) → order a b ≡ Same → a ≡ b
+pub order_same : (a b : List ℕ) → order a b ≡ Equal → a ≡ b
 unfolding order
 order_same [] [] h = refl
 order_same [] (y ∷ ys) h = absurd (less≢same h)
 order_same (x ∷ xs) [] h = absurd (more≢same h)
 order_same (x ∷ xs) (y ∷ ys) h = go (first x y) h (order_same xs ys)
   where
-    go : {p q : Bool} → First x y p q → cond p Less (cond q More (order xs ys)) ≡ Same →
-        (order xs ys ≡ Same → xs ≡ ys) → ◌≡◌ {A = List ℕ} (x ∷ xs) (y ∷ ys)
+    go : {p q : Bool} → First x y p q → cond p Less (cond q Greater (order xs ys)) ≡ Equal →
+        (order xs ys ≡ Equal → xs ≡ ys) → ◌≡◌ {A = List ℕ} (x ∷ xs) (y ∷ ys)
     go (below l) w ih = absurd (less≢same w)
     go (above l) w ih = absurd (more≢same w)
     go (level e) w ih = let r : xs ≡ ys = ih w in cc
@@ -91,14 +115,13 @@ pub same_gives : (a b : List ℕ) → is_same (order a b) ≡ true → a ≡ b
 same_gives a b e = order_same a b (is_same_lem (order a b) e)
 
 pub same_takes : (a b : List ℕ) → a ≡ b → is_same (order a b) ≡ true
-unfolding is_same
 same_takes a b e = rw (e, order_refl)
 
 -- turning the two ranges round turns the order round
-unfoldable pub turned : Order → Order
-turned Less = More
-turned Same = Same
-turned More = Less
+unfoldable pub turned : Ordering → Ordering
+turned Less = Greater
+turned Equal = Equal
+turned Greater = Less
 
 pub order_turned : (a b : List ℕ) → order b a ≡ turned (order a b)
 unfolding order turned
@@ -108,7 +131,7 @@ order_turned (x ∷ xs) [] = refl
 order_turned (x ∷ xs) (y ∷ ys) = go (first x y) (order_turned xs ys)
   where
     go : {p q : Bool} → First x y p q → order ys xs ≡ turned (order xs ys) →
-        cond q Less (cond p More (order ys xs)) ≡ turned (cond p Less (cond q More (order xs ys)))
+        cond q Less (cond p Greater (order ys xs)) ≡ turned (cond p Less (cond q Greater (order xs ys)))
     go (below l) ih = refl
     go (above l) ih = refl
     go (level e) ih = ih
@@ -128,10 +151,10 @@ pub order_cases : {X : Type 0} (a b : List ℕ) → (order a b ≡ Less → X) �
 unfolding turned
 order_cases {X} a b less same more = go (order a b) refl
   where
-    go : (o : Order) → order a b ≡ o → X
+    go : (o : Ordering) → order a b ≡ o → X
     go Less e = less e
-    go Same e = same (order_same a b e)
-    go More e = more (order_turned a b ∙ ap turned e)
+    go Equal e = same (order_same a b e)
+    go Greater e = more (order_turned a b ∙ ap turned e)
 
 -- so of a range that is not later
 pub not_later_cases : {X : Type 0} (a b : List ℕ) → NotLater a b → (order a b ≡ Less → X) → (a ≡ b → X) → X
@@ -149,8 +172,8 @@ less_trans (x ∷ xs) (y ∷ ys) [] p q = absurd (more≢less q)
 less_trans (x ∷ xs) (y ∷ ys) (z ∷ zs) p q = go (less_trans xs ys zs) (first x y) p (first y z) q
   where
     go : (order xs ys ≡ Less → order ys zs ≡ Less → order xs zs ≡ Less) → {p q : Bool} → First x y p q →
-        cond p Less (cond q More (order xs ys)) ≡ Less → {r s : Bool} → First y z r s →
-        cond r Less (cond s More (order ys zs)) ≡ Less → order (x ∷ xs) (z ∷ zs) ≡ Less
+        cond p Less (cond q Greater (order xs ys)) ≡ Less → {r s : Bool} → First y z r s →
+        cond r Less (cond s Greater (order ys zs)) ≡ Less → order (x ∷ xs) (z ∷ zs) ≡ Less
     go ih (above l) w g v = absurd (more≢less w)
     go ih (below l) w (above m) v = absurd (more≢less v)
     go ih (level l) w (above m) v = absurd (more≢less v)
@@ -161,15 +184,15 @@ less_trans (x ∷ xs) (y ∷ ys) (z ∷ zs) p q = go (less_trans xs ys zs) (firs
 
 -- of two ranges that begin with as many bytes each, the bytes that the lesser begins with are not later
 pub front_not_later : (a b xs ys : List ℕ) → length a ≡ length b → order (a ++ xs) (b ++ ys) ≡ Less → NotLater a b
-unfolding order is_at_most
+unfolding order
 front_not_later [] [] xs ys e h = refl
 front_not_later [] (y ∷ b) xs ys e h = absurd (omega arith)
 front_not_later (x ∷ a) [] xs ys e h = absurd (omega arith)
 front_not_later (x ∷ a) (y ∷ b) xs ys e h = go (first x y) h (front_not_later a b xs ys (omega arith))
   where
-    go : {p q : Bool} → First x y p q → cond p Less (cond q More (order (a ++ xs) (b ++ ys))) ≡ Less →
+    go : {p q : Bool} → First x y p q → cond p Less (cond q Greater (order (a ++ xs) (b ++ ys))) ≡ Less →
         (order (a ++ xs) (b ++ ys) ≡ Less → NotLater a b) →
-        is_at_most (cond p Less (cond q More (order a b))) ≡ true
+        is_at_most (cond p Less (cond q Greater (order a b))) ≡ true
     go (below l) w ih = refl
     go (above l) w ih = absurd (more≢less w)
     go (level l) w ih = ih w

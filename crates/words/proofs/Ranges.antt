@@ -1,18 +1,17 @@
--- A range of bytes: its length, its bytes and its parts; and two ranges, compared a byte at a time. Assumes nothing.
-use Prim.Native.Nat.{ℕ, suc, ◌+◌, ◌-◌, ◌≤◌, ◌<◌}
+-- A range of bytes: its length, its bytes and its parts; and of two ranges, the first bytes. Assumes nothing.
+use Prim.Native.Nat.{ℕ, ◌+◌, ◌-◌, ◌≤◌, ◌<◌}
 use mathlib.Core.Path.{◌≡◌, sym, ap, ◌∙◌}
-use mathlib.Core.List.{List, [], ◌∷◌, ◌++◌}
-use mathlib.Core.Bool.{cond}
-use native.Mathlib.Nat.{sub-zero, add-zero, sub_self}
+use mathlib.Core.List.{List, ◌++◌}
+use native.Mathlib.Nat.{sub-zero, add-zero}
 use native.Mathlib.Omega.{arith}
-use lib.Dec.{ltb}
 use lib.ListN.{length, take, drop, length-drop}
-use lib.Seq.{ext_get_or, drop-cons, drop-drop, get_or-drop, get_or-take, length-take-le, take-add}
-use borrow.Author.Tests.{lt-ltb, le-ltb}
+use lib.Seq.{ext_get_or, drop-drop, get_or-drop, get_or-take, length-take-le, take-add}
+use Rattle.std.specs.Cmp.Lexicographic.{slice_cmp}
+use Rattle.std.specs.Ordering.{nat_cmp}
 use Rattle.words.specs.Numbers.{byte}
 use Rattle.words.specs.Order.{NotLater, order, range}
-use Rattle.words.specs.declared.Order.TheVariants.{Less, More}
-use Rattle.words.proofs.OrderLaws.{front_not_later}
+use Rattle.std.specs.declared.cmp.Ordering.TheVariants.{Less}
+use Rattle.words.proofs.OrderLaws.{front_not_later, slices_order}
 
 -- ---- one range
 
@@ -23,6 +22,26 @@ range_length s at n h = length-take-le n (drop at s) (rw length-drop (omega arit
 -- byte i of a range is byte i from its place
 pub range_byte : (s : List ℕ) (at n i : ℕ) → i < n → byte (range s at n) i ≡ byte s (at + i)
 range_byte s at n i h = get_or-take n (drop at s) i 0 h ∙ get_or-drop at s i 0
+
+-- a part of a slice, as code takes it, is a range
+pub part_range : (s : List ℕ) (at n : ℕ) → take (at + n - at) (drop at s) ≡ range s at n
+part_range s at n = let e : at + n - at ≡ n = omega arith in rw e
+
+pub part_length : (s : List ℕ) (at n : ℕ) → at + n ≤ length s → length (take (at + n - at) (drop at s)) ≡ n
+part_length s at n h = ap length (part_range s at n) ∙ range_length s at n h
+
+pub part_index : (s : List ℕ) (at n i : ℕ) → at + n ≤ length s → i < length (take (at + n - at) (drop at s)) → i < n
+part_index s at n i h l = omega (arith, l, part_length s at n h)
+
+-- as far as its bytes go, and no less far
+pub part_end : (s : List ℕ) (at n i : ℕ) → at + n ≤ length s → i ≤ length (take (at + n - at) (drop at s)) →
+    length (take (at + n - at) (drop at s)) ≤ i → i ≡ n
+part_end s at n i h l m = omega (arith, l, m, part_length s at n h)
+
+pub part_byte : (s : List ℕ) (at n i : ℕ) → at + n ≤ length s → i < length (take (at + n - at) (drop at s)) →
+    byte (take (at + n - at) (drop at s)) i ≡ byte s (at + i)
+part_byte s at n i h l =
+    ap (λ (r : List ℕ). byte r i) (part_range s at n) ∙ range_byte s at n i (part_index s at n i h l)
 
 -- a range of n + m bytes is one of n and, behind it, one of m
 pub range_join : (s : List ℕ) (at n m : ℕ) → range s at (n + m) ≡ range s at n ++ range s (at + n) m
@@ -54,30 +73,12 @@ rest s p n i = range s (p + i) (n - i)
 pub rest_whole : (s : List ℕ) (p n : ℕ) → rest s p n 0 ≡ range s p n
 rest_whole s p n = rw (sub-zero n, add-zero p)
 
-pub rest_cons : (s : List ℕ) (p n i : ℕ) → i < n → p + n ≤ length s → rest s p n i ≡ byte s (p + i) ∷ rest s p n (i + 1)
-rest_cons s p n i h k =
-    let e : n - i ≡ suc (n - (i + 1)) = omega arith in
-    let f : p + (i + 1) ≡ suc (p + i) = omega arith in
-    let m : p + i < length s = omega arith in
-    rw (e, drop-cons s (p + i) 0 m, f)
+-- what is left, as code takes it
+pub rest_part : (s : List ℕ) (p n i : ℕ) → take (p + n - (p + i)) (drop (p + i) s) ≡ rest s p n i
+rest_part s p n i = let e : p + n - (p + i) ≡ n - i = omega arith in rw e
 
-pub rest_end : (s : List ℕ) (p n : ℕ) → rest s p n n ≡ []
-rest_end s p n = rw (sub_self n)
-
-module _ (a b : List ℕ) (p q n i : ℕ) (h : i < n) (j : p + n ≤ length a) (k : q + n ≤ length b) where
-  step : order (rest a p n i) (rest b q n i) ≡ cond (ltb (byte a (p + i)) (byte b (q + i))) Less
-      (cond (ltb (byte b (q + i)) (byte a (p + i))) More (order (rest a p n (i + 1)) (rest b q n (i + 1))))
-  unfolding order
-  step = rw (rest_cons a p n i h j, rest_cons b q n i h k)
-
-  pub step_less : byte a (p + i) < byte b (q + i) → order (rest a p n i) (rest b q n i) ≡ Less
-  step_less l = step ∙ rw (lt-ltb (byte a (p + i)) (byte b (q + i)) l)
-
-  pub step_more : byte b (q + i) < byte a (p + i) → order (rest a p n i) (rest b q n i) ≡ More
-  step_more l =
-      let le : byte b (q + i) ≤ byte a (p + i) = omega arith in
-      step ∙ rw (le-ltb (byte a (p + i)) (byte b (q + i)) le, lt-ltb (byte b (q + i)) (byte a (p + i)) l)
-
-  pub step_same : byte b (q + i) ≤ byte a (p + i) → byte a (p + i) ≤ byte b (q + i) →
-      order (rest a p n i) (rest b q n i) ≡ order (rest a p n (i + 1)) (rest b q n (i + 1))
-  step_same l m = step ∙ rw (le-ltb (byte a (p + i)) (byte b (q + i)) l, le-ltb (byte b (q + i)) (byte a (p + i)) m)
+-- std's order of what is left of two slices, as code takes it
+pub rests_order : (a b : List ℕ) (p q n i : ℕ) →
+    slice_cmp nat_cmp (take (p + n - (p + i)) (drop (p + i) a)) (take (q + n - (q + i)) (drop (q + i) b))
+    ≡ order (rest a p n i) (rest b q n i)
+rests_order a b p q n i = rw (rest_part, rest_part) (slices_order (rest a p n i) (rest b q n i))

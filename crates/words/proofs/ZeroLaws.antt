@@ -1,6 +1,6 @@
 -- Zero bytes: the bytes before the first zero, a number whose bytes are all zero, and zeros behind other bytes.
 -- Assumes nothing.
-use Prim.Native.Nat.{ℕ, zero, suc, ◌+◌, ◌*◌, ◌≤◌, ◌<◌}
+use Prim.Native.Nat.{ℕ, zero, suc, ◌+◌, ◌-◌, ◌*◌, ◌≤◌, ◌<◌}
 use mathlib.Core.Path.{◌≡◌, refl, sym, ap, ◌∙◌}
 use mathlib.Core.Bool.{Bool, true, false, cond, not, ◌&&◌}
 use mathlib.Core.List.{List, ◌++◌, append_assoc}
@@ -9,15 +9,19 @@ use native.Mathlib.Nat.{add-zero, zero-add, not-suc-le-zero, eq-or-lt_of_le, le_
 use native.Mathlib.Omega.{arith}
 use lib.Arith.{lt_of_le-ne}
 use lib.Dec.{eqb, ltb}
-use lib.ListN.{length, replicate, length-replicate, get_or-replicate, get_or-append}
+use lib.ListN.{length, take, drop, replicate, length-replicate, get_or-replicate, get_or-append}
 use lib.Seq.{ext_get_or, get_or-append-add}
 use borrow.Author.Tests.{eq-eqb, ne_eqb, eqb-true, eqb-false, ltb-true, ltb-false}
+use Rattle.std.specs.List.{position, position_or_len}
+use Rattle.std.specs.Option.{unwrap_or}
+use Rattle.std.specs.declared.option.Option.TheVariants.{None, Some}
+use Rattle.std.proofs.lemmas.List.Sums.{position_or_len_is}
 use Rattle.words.specs.Each.{each}
 use Rattle.words.specs.Numbers.{byte, little, big}
 use Rattle.words.specs.Order.{range}
 use Rattle.words.specs.Zeros.{all_zero, before_zero}
 use Rattle.words.proofs.EachLaws.{each_gives, each_takes, each_fails}
-use Rattle.words.proofs.Ranges.{range_length, range_byte}
+use Rattle.words.proofs.Ranges.{part_byte, part_index, part_length, range_length, range_byte}
 use Rattle.words.proofs.Cases.{lt_or_ge}
 
 -- the bytes before the first zero are no zeros, and the zero ends them
@@ -74,7 +78,8 @@ before_least t at m i l h = go (ltb (before_zero t at m) i) refl
   where
     go : (b : Bool) → ltb (before_zero t at m) i ≡ b → i ≤ before_zero t at m
     go true e =
-        let k = ltb-true (before_zero t at m) i e in absurd (h (before_zero t at m) k (before_zero_lem t at m (omega arith)))
+        let k = ltb-true (before_zero t at m) i e in
+        absurd (h (before_zero t at m) k (before_zero_lem t at m (omega arith)))
     go false e = ltb-false (before_zero t at m) i e
 
 -- as many bytes that are no zeros, and then a zero
@@ -88,6 +93,26 @@ before_is t at m i l h z = go (ltb i (before_zero t at m)) refl
 -- no zero among them
 pub before_whole : (t : List ℕ) (at m : ℕ) → Nonzero t at m → before_zero t at m ≡ m
 before_whole t at m h = le_antisymm (before_most t at m) (before_least t at m m (omega arith) h)
+
+-- the first zero of a part of a slice, as code finds it, or as many bytes as there are
+pub before_first : (s : List ℕ) (at n : ℕ) → at + n ≤ length s →
+    unwrap_or (position (λ b. eqb b 0) (take (at + n - at) (drop at s))) n ≡ before_zero s at n
+before_first s at n h =
+    let part = take (at + n - at) (drop at s) in
+    let z = before_zero s at n in
+    let len = part_length s at n h in
+    let bytes : (i : ℕ) → i < length part → byte part i ≡ byte s (at + i) = λ i. part_byte s at n i h in
+    let most = before_most s at n in
+    let e : position_or_len (λ b. eqb b 0) part ≡ z =
+    position_or_len_is (λ b. eqb b 0) part z 0 (rw len most)
+    (λ i l. let m : i < length part = rw len (omega (arith, l, most)) in
+    ne_eqb (byte part i) 0 (λ y. before_nonzero s at n i l (sym (bytes i m) ∙ y)))
+    (λ l. eq-eqb (byte part z) 0 (bytes z l ∙ before_zero_lem s at n (part_index s at n z h l))) in
+    rw (e, len) (go z most (ltb z n) refl)
+  where
+    go : (z : ℕ) → z ≤ n → (b : Bool) → ltb z n ≡ b → unwrap_or (cond b (Some z) None) n ≡ z
+    go z most true e = refl
+    go z most false e = le_antisymm (ltb-false z n e) most
 
 -- no byte is zero exactly when all of them stand before the first zero
 pub none_zero : (s : List ℕ) (n : ℕ) → each (λ (i : ℕ). not (eqb (byte s i) 0)) n ≡ eqb (before_zero s 0 n) n

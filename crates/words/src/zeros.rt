@@ -8,12 +8,10 @@ pub fn all_zero(s: &[u8], at: usize, n: usize) -> bool
     requires { at + n ≤ length s.now }
     ensures { result ≡ all_zero s.now at n }
 {
-    let mut i: usize = 0;
-    while i < n {
-        if s[at + i] != 0 {
+    for byte in &s[at..at + n] {
+        if *byte != 0 {
             return false;
         }
-        i += 1;
     }
     true
 }
@@ -23,12 +21,8 @@ pub fn before_zero(s: &[u8], at: usize, n: usize) -> usize
     requires { at + n ≤ length s.now }
     ensures { result ≡ before_zero s.now at n }
 {
-    let mut i: usize = 0;
-    while i < n {
-        if s[at + i] == 0 {
-            return i;
-        }
-        i += 1;
-    }
-    n
+    s[at..at + n]
+        .iter()
+        .position(|byte| *byte == 0)
+        .unwrap_or(n)
 }

@@ -4,6 +4,8 @@
 use crate::names::{of_text, Name};
 use crate::sources::{declaration, read};
 
+/// The enum of the refusals.
+const REFUSALS: &str = "crates/header/src/refusal.rt";
 /// The section of docs/GUARANTEES.md that has the rows.
 const SECTION: &str = "\n## Which refusals a call can give\n";
 
@@ -50,8 +52,42 @@ pub fn numbers_in(text: &str) -> Vec<u32> {
     numbers
 }
 
-/// The numbers of a definition in a file under crates/: its own, or those of the names it is made of.
+/// The refusals of the code with their numbers, each by the name that C has for it: `TooShort = 1` is TOO_SHORT.
+pub fn refusals_of_code() -> Vec<(String, u32)> {
+    let source = read(REFUSALS);
+    let variants = source
+        .lines()
+        .filter_map(|line| line.trim().trim_end_matches(',').split_once(" = "));
+    variants
+        .filter_map(|(name, number)| Some((upper(name), number.parse().ok()?)))
+        .collect()
+}
+
+/// A name of words that begin with capitals, as C writes it.
+fn upper(name: &str) -> String {
+    let mut all = String::new();
+    for c in name.chars() {
+        if c.is_uppercase() && !all.is_empty() {
+            all.push('_');
+        }
+        all.extend(c.to_uppercase());
+    }
+    all
+}
+
+/// The number of a refusal by its name in the code.
+fn number_of(refusal: &str) -> Option<u32> {
+    let name = upper(refusal);
+    let all = refusals_of_code();
+    let found = all.into_iter().find(|(each, _)| *each == name);
+    found.map(|(_, number)| number)
+}
+
+/// The numbers of a refusal, or of a definition in a file under crates/: of the refusals and the names it is made of.
 pub fn numbers_of(file: &str, name: &str) -> Vec<u32> {
+    if let Some(number) = number_of(name) {
+        return vec![number];
+    }
     let source = read(&format!("crates/{file}"));
     let start = format!("\n{name} = ");
     let Some((_, right)) = source.split_once(&start) else {
@@ -61,12 +97,7 @@ pub fn numbers_of(file: &str, name: &str) -> Vec<u32> {
     let right = right.split("\n\n").next().unwrap_or(right);
     let words = right.split(|c: char| c.is_whitespace() || "()[]".contains(c));
     let parts = words.filter(|word| !["", "∷", "++"].contains(word));
-    parts
-        .flat_map(|part| match part.parse() {
-            Ok(number) => vec![number],
-            Err(_) => numbers_of(file, part),
-        })
-        .collect()
+    parts.flat_map(|part| numbers_of(file, part)).collect()
 }
 
 /// The file from which a source takes a name: `use Rattle.table.specs.Table.{table_refusals}`.

@@ -23,7 +23,14 @@ pub fn crates() -> Vec<String> {
     let lines = read("crates.txt");
     let named = lines.lines().filter(|line| !line.starts_with('#'));
     named
-        .filter_map(|line| Some(line.split_once(':')?.0.trim_end_matches(" staticlib").to_string()))
+        .filter_map(|line| {
+            Some(
+                line.split_once(':')?
+                    .0
+                    .trim_end_matches(" staticlib")
+                    .to_string(),
+            )
+        })
         .collect()
 }
 
@@ -36,16 +43,17 @@ pub fn source_of(name: &str) -> String {
         .collect()
 }
 
-/// What a line declares: `fn name`, `record Name`, `name : type`, whatever marks stand before it.
+/// What a line declares: `fn name`, `record Name`, `name : type`, `Name = 1`, whatever marks stand before it.
 pub fn declaration(line: &str) -> Option<&str> {
     let mut words = line
         .split_whitespace()
         .skip_while(|word| MARKS.contains(word));
     let (first, second) = (words.next()?, words.next()?);
-    if KINDS.contains(&first) {
+    if KINDS.contains(&bare(first)) {
         return Some(bare(second));
     }
-    (second == ":").then_some(first)
+    let is_variant = second == "=" && first.starts_with(char::is_uppercase);
+    (second == ":" || is_variant).then_some(first)
 }
 
 /// A word without the punctuation behind it.
@@ -108,11 +116,12 @@ pub fn head_of(call: &str) -> Option<String> {
         hands_out(owner, name).then(|| (source_of(owner), ""))?
     } else {
         let all: String = crates().iter().map(|each| source_of(each)).collect();
-        let functions = all
-            .split_once(&format!("\nimpl {owner} {{"))?
-            .1
-            .split_once("\n}")?
-            .0;
+        let forms = [
+            format!("\nimpl {owner} {{"),
+            format!("\nimpl<'a> {owner}<'a> {{"),
+        ];
+        let (_, behind) = forms.iter().find_map(|form| all.split_once(form))?;
+        let (functions, _) = behind.split_once("\n}")?;
         (functions.to_string(), "    ")
     };
     let start = format!("{step}pub ");

@@ -12,8 +12,8 @@ use Rattle.buffer.proofs.put_decimal.Goals.{After-decimal-count}
 spelt : (c : After-decimal-count) → take c.decimal-count.result c.decimal-count.new.out ≡ decimal c.args.n
 spelt c = c.decimal-count.ensures.digits ∙ decimal_is _ _ (search rules) c.decimal-count.ensures.len
 
-pub put_bytes-requires : goal.put_bytes-requires
-put_bytes-requires c = room_as (spelt (goal.at.put_bytes-requires c).After-decimal-count) c.requires
+pub put-requires : goal.put-requires
+put-requires c = room_as (spelt (goal.at.put-requires c).After-decimal-count) c.requires
 
 pub returns : goal.returns
-returns c = wrote_as (spelt (goal.at.returns c).After-decimal-count) c.put_bytes.ensures
+returns c = wrote_as (spelt (goal.at.returns c).After-decimal-count) c.put.ensures

@@ -12,8 +12,8 @@ use Rattle.buffer.proofs.put_hex.Goals.{After-hex-count}
 spelt : (c : After-hex-count) → take c.hex-count.result c.hex-count.new.out ≡ hex_text c.args.n
 spelt c = c.hex-count.ensures.digits ∙ hex_is _ _ (search rules) c.hex-count.ensures.len
 
-pub put_bytes-requires : goal.put_bytes-requires
-put_bytes-requires c = room_as (spelt (goal.at.put_bytes-requires c).After-hex-count) c.requires
+pub put-requires : goal.put-requires
+put-requires c = room_as (spelt (goal.at.put-requires c).After-hex-count) c.requires
 
 pub returns : goal.returns
-returns c = wrote_as (spelt (goal.at.returns c).After-hex-count) c.put_bytes.ensures
+returns c = wrote_as (spelt (goal.at.returns c).After-hex-count) c.put.ensures

@@ -1,12 +1,11 @@
 -- `line` meets its contract: block.place, the cells where there are any, and the end of the line. Assumes nothing.
-use mathlib.Core.Path.{◌≡◌}
+use mathlib.Core.Path.{◌≡◌, refl, ap}
+use Rattle.std.proofs.Common.{Bor}
 use mathlib.Core.List.{List, [], ◌∷◌, ◌++◌}
 use Prim.Native.Nat.{ℕ, ◌≤◌}
 use native.Mathlib.Omega.{arith}
 use lib.ListN.{length}
 use Rattle.io.specs.Counts.{IsPrefixLen}
-use Rattle.header.specs.Rules.{Accepted}
-use Rattle.header.proofs.AcceptedLaws.{read_accepted}
 use Rattle.buffer.specs.Pieces.{Wrote, AtFront}
 use Rattle.buffer.specs.Text.{decimal}
 use Rattle.buffer.proofs.PieceLaws.{wrote_then, wrote_length, wrote_as, at_front}
@@ -15,7 +14,7 @@ use Rattle.listing.specs.Listing.{dot, newline, record_text, line_of}
 use Rattle.listing.proofs.LineLaws.{cells_most, front_most, line_bare, line_full, line_most}
 use borrow.Author.Rules.{rules}
 use Rattle.listing.proofs.line.Goals as goal
-use Rattle.listing.proofs.line.Goals.{After-h-1, After-put_decimal-cells_at}
+use Rattle.listing.proofs.line.Goals.{In-Ok, After-put_decimal-cells_at}
 
 pub put_decimal-block_end-requires : goal.put_decimal-block_end-requires
 put_decimal-block_end-requires c = record { fits = omega (arith, decimal_most c.args.block) }
@@ -57,49 +56,52 @@ put_byte-requires c =
     let w = front (goal.at.put_byte-requires c).After-put_decimal-cells_at in
     record { fits = omega (arith, wrote_length w, short (goal.at.put_byte-requires c).After-put_decimal-cells_at) }
 
-pub returns-then-answer-ne-ACCEPTED : goal.returns-then-answer-ne-ACCEPTED
-returns-then-answer-ne-ACCEPTED c =
+pub returns-in_default : goal.returns-in_default
+returns-in_default c =
     let v = c.args in
     let t = v.table.now in
-    let r = c.read-answer in
-    let w = wrote_then _ (newline ∷ []) (front (goal.at.returns-then-answer-ne-ACCEPTED c).After-put_decimal-cells_at) c.put_byte.ensures in
-    let bare = line_bare t v.block v.place r.result r.ensures c.if-answer-ne-ACCEPTED.true in
+    let f = front (goal.at.returns-in_default c).After-put_decimal-cells_at in
+    let w = wrote_then _ (newline ∷ []) f c.put_byte.ensures in
+    let bare = line_bare t v.block v.place _ (rw c.in_default.is at c.open.ensures.its_header) refl in
     let both_clauses = finished v.out.now t v.block v.place (wrote_as bare w) (search rules) in
     record { prefix_len = both_clauses.0; at_front = both_clauses.1 }
 
 -- where the header is accepted: how long the cells are
 
-good : (c : After-h-1) → Accepted c.args.table.now c.read-answer.result.header
-good c =
-    let r = c.read-answer in
-    read_accepted _ r.result r.ensures c.if-answer-ne-ACCEPTED.false
-
-cells-short : (c : After-h-1) → let v = c.args in
-    length (record_text v.table.now c.read-answer.result.header v.block v.place) ≤ 65280
+cells-short : (c : In-Ok) → let v = c.args in
+    let o = c.in-Ok.opened in
+    length (record_text o.bytes.now o.header v.block v.place) ≤ 65280
 cells-short c =
     let v = c.args in
-    let m = cells_most v.table.now c.read-answer.result.header v.block v.place (good c) c.read-answer.result.header.fields in
-    omega (arith, m, (good c).fields_most)
+    let o = c.in-Ok.opened in
+    let m = cells_most o.bytes.now o.header v.block v.place o.accepted o.header.fields in
+    omega (arith, m, o.accepted.fields_most)
 
 pub put_cells-end-requires : goal.put_cells-end-requires
 put_cells-end-requires c =
-    let l = short (goal.at.put_cells-end-requires c).After-put_decimal-cells_at in
-    record { room = record { fits = omega (arith, wrote_length (front (goal.at.put_cells-end-requires c).After-put_decimal-cells_at), l, cells-short (goal.at.put_cells-end-requires c).After-h-1) }; accepted = good (goal.at.put_cells-end-requires c).After-h-1 }
+    let at = goal.at.put_cells-end-requires c in
+    let w = front at.After-put_decimal-cells_at in
+    let l = short at.After-put_decimal-cells_at in
+    record { fits = omega (arith, wrote_length w, l, cells-short at.In-Ok) }
 
 pub put_byte-requires-2 : goal.put_byte-requires-2
 put_byte-requires-2 c =
-    let w = front (goal.at.put_byte-requires-2 c).After-put_decimal-cells_at in
-    let l = short (goal.at.put_byte-requires-2 c).After-put_decimal-cells_at in
+    let at = goal.at.put_byte-requires-2 c in
+    let w = front at.After-put_decimal-cells_at in
+    let l = short at.After-put_decimal-cells_at in
     let k = c.put_cells-end.ensures in
-    record { fits = omega (arith, wrote_length w, l, k.ends, wrote_length k, cells-short (goal.at.put_byte-requires-2 c).After-h-1) }
+    record { fits = omega (arith, wrote_length w, l, k.ends, wrote_length k, cells-short at.In-Ok) }
 
 pub returns : goal.returns
 returns c =
     let v = c.args in
     let t = v.table.now in
-    let r = c.read-answer in
-    let full = line_full t v.block v.place r.result r.ensures c.if-answer-ne-ACCEPTED.false in
-    let b = wrote_then _ _ (front (goal.at.returns c).After-put_decimal-cells_at) c.put_cells-end.ensures in
+    let h = c.in-Ok.opened.header in
+    let o = rw c.in-Ok.is at c.open.ensures in
+    let full = line_full t v.block v.place _ o.its_header refl in
+    let its = ap (λ (b : Bor (List ℕ)). record_text b.now h v.block v.place) o.its_bytes in
+    let cells = wrote_as its c.put_cells-end.ensures in
+    let b = wrote_then _ _ (front (goal.at.returns c).After-put_decimal-cells_at) cells in
     let w = wrote_then _ (newline ∷ []) b c.put_byte-2.ensures in
     let both_clauses = finished v.out.now t v.block v.place (wrote_as full w) (search rules) in
     record { prefix_len = both_clauses.0; at_front = both_clauses.1 }

@@ -12,25 +12,25 @@ use Rattle.listing.proofs.put_head.Goals.{After-put_decimal-fields_end, After-pu
 
 pub put_decimal-fields_end-requires : goal.put_decimal-fields_end-requires
 put_decimal-fields_end-requires c =
-    let a = c.put_bytes-fields_at.ensures in
+    let a = c.put-fields_at.ensures in
     let v = c.args in
     record { fits = omega (arith, a.ends, wrote_length a, decimal_most v.fields) }
 
 -- as far as the number of fields
 fields-put : (c : After-put_decimal-fields_end) → let v = c.args in
     Wrote v.out.now 0 (fields_text v.fields) c.put_decimal-fields_end.new.out c.put_decimal-fields_end.result
-fields-put c = wrote_then fields_word (decimal _) c.put_bytes-fields_at.ensures c.put_decimal-fields_end.ensures
+fields-put c = wrote_then fields_word (decimal _) c.put-fields_at.ensures c.put_decimal-fields_end.ensures
 
-pub put_bytes-keys_at-requires : goal.put_bytes-keys_at-requires
-put_bytes-keys_at-requires c =
-    let w = fields-put (goal.at.put_bytes-keys_at-requires c).After-put_decimal-fields_end in
+pub put-keys_at-requires : goal.put-keys_at-requires
+put-keys_at-requires c =
+    let w = fields-put (goal.at.put-keys_at-requires c).After-put_decimal-fields_end in
     let v = c.args in
     record { fits = omega (arith, w.ends, wrote_length w, fields_most v.fields) }
 
 pub put_decimal-keys_end-requires : goal.put_decimal-keys_end-requires
 put_decimal-keys_end-requires c =
     let w = fields-put (goal.at.put_decimal-keys_end-requires c).After-put_decimal-fields_end in
-    let a = c.put_bytes-keys_at.ensures in
+    let a = c.put-keys_at.ensures in
     let v = c.args in
     let m = decimal_most v.keys in
     record { fits = omega (arith, w.ends, wrote_length w, fields_most v.fields, a.ends, wrote_length a, m) }
@@ -39,20 +39,20 @@ put_decimal-keys_end-requires c =
 keys-put : (c : After-put_decimal-keys_end) → let v = c.args in
     Wrote v.out.now 0 (keys_text v.fields v.keys) c.put_decimal-keys_end.new.out c.put_decimal-keys_end.result
 keys-put c =
-    let w = (let fields-put_here : let v = c.args in Wrote v.out.now 0 (fields_text v.fields) c.put_decimal-fields_end.new.out c.put_decimal-fields_end.result = wrote_then fields_word (decimal _) c.put_bytes-fields_at.ensures c.put_decimal-fields_end.ensures in fields-put_here) in
-    let a = wrote_then (fields_text _) key_word w c.put_bytes-keys_at.ensures in
+    let w = wrote_then fields_word (decimal _) c.put-fields_at.ensures c.put_decimal-fields_end.ensures in
+    let a = wrote_then (fields_text _) key_word w c.put-keys_at.ensures in
     wrote_then (fields_text _ ++ key_word) (decimal _) a c.put_decimal-keys_end.ensures
 
-pub put_bytes-records_at-requires : goal.put_bytes-records_at-requires
-put_bytes-records_at-requires c =
-    let w = keys-put (goal.at.put_bytes-records_at-requires c).After-put_decimal-keys_end in
+pub put-records_at-requires : goal.put-records_at-requires
+put-records_at-requires c =
+    let w = keys-put (goal.at.put-records_at-requires c).After-put_decimal-keys_end in
     let v = c.args in
     record { fits = omega (arith, w.ends, wrote_length w, keys_most v.fields v.keys) }
 
 pub put_decimal-end-requires : goal.put_decimal-end-requires
 put_decimal-end-requires c =
     let w = keys-put (goal.at.put_decimal-end-requires c).After-put_decimal-keys_end in
-    let a = c.put_bytes-records_at.ensures in
+    let a = c.put-records_at.ensures in
     let v = c.args in
     let m = keys_most v.fields v.keys in
     record { fits = omega (arith, w.ends, wrote_length w, m, a.ends, wrote_length a, decimal_most v.records) }
@@ -60,7 +60,7 @@ put_decimal-end-requires c =
 pub put_byte-requires : goal.put_byte-requires
 put_byte-requires c =
     let w = keys-put (goal.at.put_byte-requires c).After-put_decimal-keys_end in
-    let a = c.put_bytes-records_at.ensures in
+    let a = c.put-records_at.ensures in
     let b = c.put_decimal-end.ensures in
     let v = c.args in
     let m = keys_most v.fields v.keys in
@@ -73,7 +73,8 @@ returns c =
     let v = c.args in
     let k = keys_text v.fields v.keys in
     let r = decimal v.records in
-    let a = wrote_then k records_word (keys-put (goal.at.returns c).After-put_decimal-keys_end) c.put_bytes-records_at.ensures in
+    let w = keys-put (goal.at.returns c).After-put_decimal-keys_end in
+    let a = wrote_then k records_word w c.put-records_at.ensures in
     let b = wrote_then (k ++ records_word) r a c.put_decimal-end.ensures in
     let w = wrote_then (k ++ records_word ++ r) (newline ∷ []) b c.put_byte.ensures in
     let m = head_most v.fields v.keys v.records in

@@ -8,8 +8,9 @@ use Rattle.scan.proofs.find_from.Given as goal
 
 abbrev pub invariant-loop-block : goal.invariant-loop-block
 invariant-loop-block l =
-    GoodFrom l.table l.shape l.block
-    × (found_from l.table l.shape l.key l.first ≡ found_from l.table l.shape l.key l.block)
+    let f = l.file in
+    GoodFrom f.bytes.now f.shape l.block
+    × (found_from f.bytes.now f.shape l.key l.first ≡ found_from f.bytes.now f.shape l.key l.block)
 
 abbrev pub decreases-loop-block : goal.decreases-loop-block
-decreases-loop-block l = length (blocks_from l.table l.shape l.block)
+decreases-loop-block l = length (blocks_from l.file.bytes.now l.file.shape l.block)

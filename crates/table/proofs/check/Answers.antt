@@ -1,25 +1,21 @@
 -- `check` meets its contract: 1 to 7, then the check behind them. Assumes nothing.
-use Rattle.header.proofs.AcceptedLaws.{read_accepted}
+use mathlib.Core.Path.{refl, ap, ◌∙◌}
+use Rattle.std.specs.Prelude.{Err}
+use Rattle.std.proofs.lemmas.Result.{err_from_is_err_and}
 use Rattle.table.proofs.CheckLaws.{header_refused, checked_blocks}
 use Rattle.table.proofs.check.Goals as goal
 
-pub returns-then-answer-ne-ACCEPTED : goal.returns-then-answer-ne-ACCEPTED
-returns-then-answer-ne-ACCEPTED c =
+pub returns-in_err-opened : goal.returns-in_err-opened
+returns-in_err-opened c =
     let v = c.args in
-    let r = c.read-answer in
-    let both_clauses = header_refused v.table.now v.marks.now r.result r.ensures c.if-answer-ne-ACCEPTED.true in
-    record { value = both_clauses.0; marks_after = both_clauses.1 }
-
-pub check_blocks-requires : goal.check_blocks-requires
-check_blocks-requires c =
-    let v = c.args in
-    let r = c.read-answer in
-    read_accepted v.table.now r.result r.ensures c.if-answer-ne-ACCEPTED.false
+    let p = err_from_is_err_and c.from_residual.result c.from_residual.ensures.1 in
+    let b = header_refused v.bytes.now v.marks.now _ c.in_err-opened.ensures.its_header refl in
+    record { value = p.1 ∙ ap Err p.2 ∙ b.0; marks_after = b.1 }
 
 pub returns : goal.returns
 returns c =
     let v = c.args in
-    let r = c.read-answer in
-    let both_clauses = checked_blocks v.table.now v.marks.now r.result r.ensures c.if-answer-ne-ACCEPTED.false c.check_blocks.result _
-    c.check_blocks.ensures.value c.check_blocks.ensures.marks_after in
-    record { value = both_clauses.0; marks_after = both_clauses.1 }
+    let o = c.in_ok-opened.ensures in
+    let b = checked_blocks v.bytes.now v.marks.now _ o.its_header refl c.check_blocks.result _
+    (rw o.its_bytes at c.check_blocks.ensures.value) (rw o.its_bytes at c.check_blocks.ensures.marks_after) in
+    record { value = b.0; marks_after = b.1 }

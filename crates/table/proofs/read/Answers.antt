@@ -1,54 +1,52 @@
--- `read` meets its contract: the header's refusal, that of the check behind it, or the header's numbers. Assumes
--- nothing.
-use mathlib.Core.Path.{◌≡◌, sym, ap, ◌∙◌}
+-- `read` meets its contract: the header's refusal, that of the check behind it, or the table. Assumes nothing.
+use mathlib.Core.Path.{refl, ap, ◌∙◌}
 use lib.ListN.{length}
-use Rattle.header.specs.Numbers.{numbers_of}
-use Rattle.header.specs.Answers.{refused_with, accepted_with}
-use Rattle.header.proofs.AcceptedLaws.{read_kept, read_refused, read_accepted}
-use Rattle.table.specs.Table.{table_answer, checked_header, table_marks}
-use Rattle.table.proofs.CheckLaws.{header_refused, checked_blocks, table_kept, table_refused}
+use Rattle.std.specs.Prelude.{Ok, Err}
+use Rattle.std.proofs.lemmas.Result.{err_from_is_err_and}
+use Rattle.header.specs.Opened.{header_in}
+use Rattle.header.proofs.AcceptedLaws.{read_numbers}
+use Rattle.table.proofs.CheckLaws.{header_refused, checked_blocks, header_as_refused, header_as_kept}
 use Rattle.table.proofs.read.Goals as goal
-use Rattle.table.proofs.read.Goals.{After-check_blocks-checked, Else-answer-ne-ACCEPTED}
 
-pub returns-then-answer-ne-ACCEPTED : goal.returns-then-answer-ne-ACCEPTED
-unfolding checked_header
-returns-then-answer-ne-ACCEPTED c =
+pub returns-in_err-table : goal.returns-in_err-table
+returns-in_err-table c =
     let v = c.args in
-    let t = v.table.now in
-    let m = v.marks.now in
-    let r = c.read-answer in
-    let ne = c.if-answer-ne-ACCEPTED.true in
-    let a = header_refused t m r.result r.ensures ne in
-    let n = table_refused t (length m) refused_with (accepted_with (numbers_of t)) (λ z. ne (a.0 ∙ z)) in
-    record { value = read_refused t r.result r.ensures ne ∙ ap refused_with a.0 ∙ sym n; marks_after = a.1 }
+    let p = err_from_is_err_and c.from_residual.result c.from_residual.ensures.1 in
+    let b = header_refused v.bytes.now v.marks.now _ c.in_err-table.ensures.its_header refl in
+    record {
+      value = ap header_in (p.1 ∙ ap Err p.2) ∙ header_as_refused v.bytes.now (length v.marks.now) b.0;
+      its_bytes = rw p.1 tt;
+      marks_after = b.1;
+    }
 
 -- where the header is accepted
 
-read : (c : Else-answer-ne-ACCEPTED) → c.read-answer.result ≡ accepted_with (numbers_of c.args.table.now)
-read c = read_kept c.args.table.now c.read-answer.result c.read-answer.ensures c.if-answer-ne-ACCEPTED.false
-
-pub check_blocks-checked-requires : goal.check_blocks-checked-requires
-check_blocks-checked-requires c = read_accepted c.args.table.now c.read-answer.result c.read-answer.ensures c.if-answer-ne-ACCEPTED.false
-
--- what the check behind it answered, and left in the marks
-answered : (c : After-check_blocks-checked) → (c.check_blocks-checked.result ≡ table_answer c.args.table.now (length c.args.marks.now))
-    × (c.check_blocks-checked.new.marks ≡ table_marks c.args.table.now c.args.marks.now)
-answered c =
-    checked_blocks c.args.table.now c.args.marks.now c.read-answer.result c.read-answer.ensures c.if-answer-ne-ACCEPTED.false c.check_blocks-checked.result c.check_blocks-checked.new.marks
-    c.check_blocks-checked.ensures.value c.check_blocks-checked.ensures.marks_after
-
-pub returns-then-checked-ne-ACCEPTED : goal.returns-then-checked-ne-ACCEPTED
-unfolding checked_header
-returns-then-checked-ne-ACCEPTED c =
-    let a = answered (goal.at.returns-then-checked-ne-ACCEPTED c).After-check_blocks-checked in
-    let n =
-    table_refused c.args.table.now (length c.args.marks.now) refused_with (accepted_with (numbers_of c.args.table.now))
-    (λ z. c.if-checked-ne-ACCEPTED.true (a.0 ∙ z)) in
-    record { value = c.refused.ensures ∙ ap refused_with a.0 ∙ sym n; marks_after = a.1 }
+pub returns-in_err-check_blocks : goal.returns-in_err-check_blocks
+returns-in_err-check_blocks c =
+    let v = c.args in
+    let r = c.from_residual-in_err-check_blocks in
+    let p = err_from_is_err_and r.result r.ensures.1 in
+    let o = c.in_ok-table.ensures in
+    let b = checked_blocks v.bytes.now v.marks.now _ o.its_header refl (Err _) _
+    (rw o.its_bytes at c.in_err-check_blocks.ensures.value)
+    (rw o.its_bytes at c.in_err-check_blocks.ensures.marks_after) in
+    record {
+      value = ap header_in (p.1 ∙ ap Err p.2) ∙ header_as_refused v.bytes.now (length v.marks.now) b.0;
+      its_bytes = rw p.1 tt;
+      marks_after = b.1;
+    }
 
 pub returns : goal.returns
-unfolding checked_header
 returns c =
-    let a = answered (goal.at.returns c).After-check_blocks-checked in
-    let n = table_kept c.args.table.now (length c.args.marks.now) refused_with (accepted_with (numbers_of c.args.table.now)) (sym a.0 ∙ c.if-checked-ne-ACCEPTED.false) in
-    record { value = read (goal.at.returns c).Else-answer-ne-ACCEPTED ∙ sym n; marks_after = a.1 }
+    let v = c.args in
+    let o = c.in_ok-table.ensures in
+    let b = checked_blocks v.bytes.now v.marks.now _ o.its_header refl (Ok _) _
+    (rw o.its_bytes at c.in_ok-check_blocks.ensures.value)
+    (rw o.its_bytes at c.in_ok-check_blocks.ensures.marks_after) in
+    record {
+      value =
+          ap Ok (read_numbers v.bytes.now _ o.its_header refl)
+          ∙ header_as_kept v.bytes.now (length v.marks.now) b.0;
+      its_bytes = o.its_bytes;
+      marks_after = b.1;
+    }

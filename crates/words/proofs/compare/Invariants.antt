@@ -1,12 +1,11 @@
 -- What holds on the way in `compare`.
-use Prim.Native.Nat.{◌≤◌, ◌-◌}
+use Prim.Native.Nat.{◌*◌}
 use mathlib.Core.Path.{◌≡◌}
 use Rattle.words.specs.Order.{order, range}
 use Rattle.words.proofs.Ranges.{rest}
 use Rattle.words.proofs.compare.Given as goal
 
 abbrev pub invariant-loop-i : goal.invariant-loop-i
-invariant-loop-i l = (l.i ≤ l.n) × (order (range l.a l.p l.n) (range l.b l.q l.n) ≡ order (rest l.a l.p l.n l.i) (rest l.b l.q l.n l.i))
-
-abbrev pub decreases-loop-i : goal.decreases-loop-i
-decreases-loop-i l = l.n - l.i
+invariant-loop-i l =
+    order (range l.a l.p l.n) (range l.b l.q l.n)
+    ≡ order (rest l.a l.p l.n (8 * l.i)) (rest l.b l.q l.n (8 * l.i))

@@ -1,10 +1,7 @@
--- `long` meets its contract: two words joined. Assumes nothing.
-use mathlib.Core.Path.{sym, ◌∙◌}
-use native.Mathlib.Omega.{arith}
-use Rattle.words.proofs.NumberLaws.{little_join}
+-- `long` meets its contract: its four bytes, low byte first. Assumes nothing.
+use mathlib.Core.Path.{◌∙◌}
+use Rattle.words.proofs.NumberLaws.{four_bytes}
 use Rattle.words.proofs.long.Goals as goal
 
 pub returns : goal.returns
-returns c =
-    let v = c.args in
-    sym (little_join v.s.now v.at 2 2 ∙ omega (arith, c.word-low.ensures, c.word-high.ensures))
+returns c = c.from_le_bytes.ensures ∙ four_bytes c.args.s.now c.args.at

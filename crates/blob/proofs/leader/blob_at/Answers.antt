@@ -1,9 +1,9 @@
 -- `blob_at` meets its contract: zeros, the leader, or the MB file. Assumes nothing.
 use mathlib.Core.Path.{sym, ap, ◌∙◌, subst}
 use Prim.Native.Nat.{ℕ, ◌≤◌, ◌<◌}
+use Rattle.std.specs.Prelude.{Ok}
 use Rattle.blob.specs.Leader.{leader_size, offset_at}
-use Rattle.blob.specs.Blob.{body_of}
-use Rattle.blob.specs.declared.answer.Blob.{Blob}
+use Rattle.blob.specs.Blob.{Answer, part, body_of}
 use Rattle.blob.specs.declared.answer.Blob.TheVariants.{InTable}
 use Rattle.blob.proofs.BlobLaws.{blob_blank, blob_leader, blob_body}
 use Rattle.blob.proofs.leader.blob_at.Goals as goal
@@ -18,7 +18,7 @@ returns-then-len-leader c =
     let v = c.args in
     let l = c.long-len.ensures in
     let z = sym c.all_zero.ensures ∙ c.if-all_zero.false in
-    ap {B = Blob} (λ (n : ℕ). InTable v.at n) l
+    ap {B = Answer} (λ (n : ℕ). Ok (InTable (part v.at n))) l
     ∙ blob_leader v.table.now v.mb.now v.at v.width z
     (subst (λ (n : ℕ). n ≤ leader_size v.width) l c.if-len-leader.true)
 

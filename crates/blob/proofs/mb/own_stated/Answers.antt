@@ -1,9 +1,9 @@
 -- `own_stated` meets its contract: the kind, then the length that the head states. Assumes nothing.
 use mathlib.Core.Path.{ap, ◌∙◌}
 use Prim.Native.Nat.{ℕ}
-use Rattle.blob.specs.Mb.{own_head}
+use Rattle.std.specs.Prelude.{Option}
+use Rattle.blob.specs.Mb.{stated_is, own_head}
 use Rattle.blob.specs.declared.mb.Stated.{Stated}
-use Rattle.blob.specs.declared.mb.Stated.TheVariants.{Is}
 use Rattle.blob.proofs.MbLaws.{own_other, own_states}
 use Rattle.blob.proofs.mb.own_stated.Goals as goal
 
@@ -13,5 +13,5 @@ returns-then-mb-base-ne-OWN_KIND c = let v = c.args in own_other v.mb.now v.base
 pub returns : goal.returns
 returns c =
     let v = c.args in
-    ap {B = Stated} (λ (n : ℕ). Is own_head n) c.long.ensures
+    ap {B = Option Stated} (λ (n : ℕ). stated_is own_head n) c.long.ensures
     ∙ own_states v.mb.now v.base c.if-mb-base-ne-OWN_KIND.false

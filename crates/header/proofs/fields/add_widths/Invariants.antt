@@ -1,10 +1,6 @@
 -- What holds on the way in `add_widths`.
-use Prim.Native.Nat.{◌-◌}
 use Rattle.header.proofs.FieldLaws.{Added}
 use Rattle.header.proofs.fields.add_widths.Given as goal
 
 abbrev pub invariant-loop-f : goal.invariant-loop-f
 invariant-loop-f l = Added l.t l.area l.keys l.n l.offsets l.sum l.f
-
-abbrev pub decreases-loop-f : goal.decreases-loop-f
-decreases-loop-f l = l.n - l.f

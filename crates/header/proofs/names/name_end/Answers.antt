@@ -7,7 +7,7 @@ use Rattle.header.proofs.NameLaws.{name_beyond, name_empty, name_long, name_fits
 use Rattle.header.proofs.names.name_end.Goals as goal
 
 pub loop-i-init : goal.loop-i-init
-loop-i-init c = (search rules, nonzero_none c.args.t.now c.args.at)
+loop-i-init c = nonzero_none c.args.t.now c.args.at
 
 pub returns-then-end-at : goal.returns-then-end-at
 returns-then-end-at c =
@@ -15,26 +15,26 @@ returns-then-end-at c =
     sym (name_beyond v.t.now v.end v.at (omega (
       arith,
       c.if-end-at.true,
-      before_least v.t.now v.at 26 c.loop-i.i c.loop-i.invariant.0 c.loop-i.invariant.1,
+      before_least v.t.now v.at 26 c.loop-i.i c.loop-i.auto.i-end c.loop-i.invariant,
     )))
 
 pub returns-then-i-eq0 : goal.returns-then-i-eq0
 returns-then-i-eq0 c =
     let v = c.args in
     sym (name_empty v.t.now v.end v.at (before_is v.t.now v.at 26 c.loop-i.i (search rules)
-    c.loop-i.invariant.1 c.if-t-at-eq0.true ∙ c.if-i-eq0.true))
+    c.loop-i.invariant c.if-t-at-eq0.true ∙ c.if-i-eq0.true))
 
 pub returns-then-t-at-eq0 : goal.returns-then-t-at-eq0
 returns-then-t-at-eq0 c =
     let v = c.args in
     sym (name_fits_lem v.t.now v.end v.at c.loop-i.i
-    (before_is v.t.now v.at 26 c.loop-i.i (search rules) c.loop-i.invariant.1 c.if-t-at-eq0.true)
+    (before_is v.t.now v.at 26 c.loop-i.i (search rules) c.loop-i.invariant c.if-t-at-eq0.true)
     (search rules) (search rules) (search rules))
 
 pub loop-i-preserved : goal.loop-i-preserved
 loop-i-preserved c =
     let v = c.args in
-    (search rules, nonzero_more v.t.now v.at c.loop-i.i c.loop-i.invariant.1 c.if-t-at-eq0.false)
+    nonzero_more v.t.now v.at c.loop-i.i c.loop-i.invariant c.if-t-at-eq0.false
 
 pub returns : goal.returns
 returns c =
@@ -42,5 +42,5 @@ returns c =
     sym (name_long v.t.now v.end v.at (omega (
       arith,
       c.loop-i-test.false,
-      before_least v.t.now v.at 26 c.loop-i.i c.loop-i.invariant.0 c.loop-i.invariant.1,
+      before_least v.t.now v.at 26 c.loop-i.i c.loop-i.auto.i-end c.loop-i.invariant,
     )))

@@ -5,7 +5,7 @@ use Rattle.index.specs.Entries.{below}
 use Rattle.index.proofs.entries.find_below.Given as goal
 
 abbrev pub invariant-loop-i : goal.invariant-loop-i
-invariant-loop-i l = (l.i ≤ l.count) × (below l.x l.shape l.key l.block l.count ≡ below l.x l.shape l.key l.block l.i)
-
-abbrev pub decreases-loop-i : goal.decreases-loop-i
-decreases-loop-i l = l.i
+invariant-loop-i l =
+    let f = l.file in
+    (l.i ≤ l.count)
+    × (below f.bytes.now f.shape l.key l.block l.count ≡ below f.bytes.now f.shape l.key l.block l.i)

@@ -1,103 +1,115 @@
 -- `walk` meets its contract: 1 to 7, 13, 21 to 26, then the walk from the root. Assumes nothing.
-use mathlib.Core.Path.{◌≡◌, sym, ap, ◌∙◌}
+use Rattle.std.specs.Prelude.{Result, Ok, Err}
+use Rattle.std.proofs.lemmas.Result.{err_from_is_err_and}
+use mathlib.Core.Path.{◌≡◌, refl, sym, ap, ◌∙◌}
 use mathlib.Core.Bool.{true}
+use Rattle.header.specs.declared.refusal.Refusal.{Refusal}
+use Rattle.header.specs.declared.refusal.Refusal.TheVariants.{BadArgument}
 use Rattle.header.specs.Numbers.{numbers_of}
-use Rattle.header.specs.declared.Header.{Header}
 use Rattle.header.proofs.AcceptedLaws.{read_numbers, numbers_accepted}
 use Rattle.blocks.specs.Shape.{shape_of}
 use Rattle.lookup.specs.Sought.{key_fits}
 use Rattle.index.specs.Header.{index_of}
-use Rattle.index.specs.Walk.{found_after, refused_walk, walk_key, walk_of, walked_numbers, walk_numbers}
-use Rattle.index.specs.declared.IndexHeader.{IndexHeader}
+use Rattle.index.specs.Walk.{found_after, walk_key, walk_of, walked_numbers, walk_numbers}
 use Rattle.index.specs.declared.walking.Walked.{Walked}
 use Rattle.index.proofs.WalkLaws.{walks, walk_refused_first, walk_behind, key_unfit, index_refused}
-use Rattle.index.proofs.WalkLaws.{walk_rootless, walk_rooted, walkable, walk_same}
-use borrow.Author.Rules.{rules}
+use Rattle.index.proofs.AcceptedLaws.{accepted_index}
+use Rattle.index.proofs.WalkLaws.{walk_rootless, walk_rooted, walkable}
 use Rattle.index.proofs.walking.walk.Goals as goal
-use Rattle.index.proofs.walking.walk.Goals.{After-key_fits, After-read-i, After-shape_of, Else-answer-ne-ACCEPTED, Else-i-ne-ACCEPTED, Else-not-key_fits}
+use Rattle.index.proofs.walking.walk.Goals.{Else-not-key_fits, In_ok-table, In_ok-i, After-of}
 
-pub returns-then-answer-ne-ACCEPTED : goal.returns-then-answer-ne-ACCEPTED
-returns-then-answer-ne-ACCEPTED c =
+pub returns-in_err-table : goal.returns-in_err-table
+returns-in_err-table c =
     let v = c.args in
-    let h = c.read-answer in
-    let both_clauses = walks v.table.now v.index.now v.key.now c.refused.result
-    (c.refused.ensures
-    ∙ sym (walk_refused_first v.table.now v.index.now v.key.now h.result h.ensures
-    c.if-answer-ne-ACCEPTED.true)) in
-    record { value = both_clauses.0; result_value = both_clauses.1 }
+    let p = err_from_is_err_and c.from_residual.result c.from_residual.ensures.1 in
+    let e = walks v.table.now v.index.now v.key.now c.from_residual.result
+    (p.1 ∙ ap Err p.2
+    ∙ sym (walk_refused_first v.table.now v.index.now v.key.now _ c.in_err-table.ensures.its_header refl)) in
+    record { value = e.0; result_value = e.1 }
 
 -- where the table's header is accepted
 
-header : (c : Else-answer-ne-ACCEPTED) → c.read-answer.result.header ≡ numbers_of c.args.table.now
-header c = read_numbers c.args.table.now c.read-answer.result c.read-answer.ensures c.if-answer-ne-ACCEPTED.false
+header : (c : In_ok-table) → c.in_ok-table.table.header ≡ numbers_of c.args.table.now
+header c = read_numbers c.args.table.now _ c.in_ok-table.ensures.its_header refl
+
+-- the table's file has its shape
+shape : (c : After-of) → c.of.result.shape ≡ shape_of (numbers_of c.args.table.now)
+shape c =
+    let header = read_numbers c.args.table.now _ c.in_ok-table.ensures.its_header refl in
+    c.of.ensures.shape ∙ ap shape_of header
 
 -- what is answered behind it
-answers : (c : Else-answer-ne-ACCEPTED) → (w : Walked) → w ≡ walk_key c.args.table.now (numbers_of c.args.table.now) c.args.index.now c.args.key.now → (w ≡ walk_of c.args.table.now c.args.index.now c.args.key.now) × (walked_numbers w ≡ walk_numbers c.args.table.now c.args.index.now c.args.key.now)
-answers c w e = walks c.args.table.now c.args.index.now c.args.key.now w (e ∙ sym (walk_behind c.args.table.now c.args.index.now c.args.key.now c.read-answer.result c.read-answer.ensures c.if-answer-ne-ACCEPTED.false))
-
-verdict13 : (c : After-key_fits) → key_fits (numbers_of c.args.table.now) c.args.key.now ≡ c.key_fits.result
-verdict13 c = ap (λ (h : Header). key_fits h c.args.key.now) (sym ((let header_here : c.read-answer.result.header ≡ numbers_of c.args.table.now = read_numbers c.args.table.now c.read-answer.result c.read-answer.ensures c.if-answer-ne-ACCEPTED.false in header_here))) ∙ sym c.key_fits.ensures
+answers : (c : In_ok-table) → let v = c.args in (w : Result Walked Refusal)
+    → w ≡ walk_key v.table.now (numbers_of v.table.now) v.index.now v.key.now
+    → (w ≡ walk_of v.table.now v.index.now v.key.now)
+    × (walked_numbers w ≡ walk_numbers v.table.now v.index.now v.key.now)
+answers c w e =
+    let v = c.args in
+    walks v.table.now v.index.now v.key.now w
+    (e ∙ sym (walk_behind v.table.now v.index.now v.key.now _ c.in_ok-table.ensures.its_header refl))
 
 pub returns-then-not-key_fits : goal.returns-then-not-key_fits
 returns-then-not-key_fits c =
-    let both_clauses = answers (goal.at.returns-then-not-key_fits c).Else-answer-ne-ACCEPTED c.refused-then-not-key_fits.result
-    (c.refused-then-not-key_fits.ensures
-    ∙ sym (key_unfit c.args.table.now c.args.index.now c.args.key.now (verdict13 (goal.at.returns-then-not-key_fits c).After-key_fits ∙ c.if-not-key_fits.true))) in
-    record { value = both_clauses.0; result_value = both_clauses.1 }
+    let v = c.args in
+    let at = (goal.at.returns-then-not-key_fits c).In_ok-table in
+    let unfit = rw (header at) at (sym c.key_fits.ensures ∙ c.if-not-key_fits.true) in
+    let e = answers at (Err BadArgument) (sym (key_unfit v.table.now v.index.now v.key.now unfit)) in
+    record { value = e.0; result_value = e.1 }
 
 -- where the key fits
 
 fits : (c : Else-not-key_fits) → key_fits (numbers_of c.args.table.now) c.args.key.now ≡ true
-fits c = verdict13 (goal.at.read-i-requires c).After-key_fits ∙ c.if-not-key_fits.false
+fits c =
+    let header = read_numbers c.args.table.now _ c.in_ok-table.ensures.its_header refl in
+    rw header at (sym c.key_fits.ensures ∙ c.if-not-key_fits.false)
 
-pub read-i-requires : goal.read-i-requires
-read-i-requires c = search rules
+pub returns-in_err-i : goal.returns-in_err-i
+returns-in_err-i c =
+    let v = c.args in
+    let h = (goal.at.returns-in_err-i c).In_ok-table in
+    let p = err_from_is_err_and c.from_residual-in_err-i.result c.from_residual-in_err-i.ensures.1 in
+    let index = rw (header h) at c.in_err-i.ensures in
+    let e = answers h c.from_residual-in_err-i.result
+    (p.1 ∙ ap Err p.2
+    ∙ sym (index_refused v.table.now v.index.now v.key.now (fits (goal.at.returns-in_err-i c).Else-not-key_fits) _
+    (sym index))) in
+    record { value = e.0; result_value = e.1 }
 
 -- the index's header is read for the table's key length
-index : (c : After-read-i) → c.read-i.result ≡ index_of c.args.index.now (numbers_of c.args.table.now).key_length
-index c = c.read-i.ensures ∙ ap (λ (h : Header). index_of c.args.index.now h.key_length) ((let header_here : c.read-answer.result.header ≡ numbers_of c.args.table.now = read_numbers c.args.table.now c.read-answer.result c.read-answer.ensures c.if-answer-ne-ACCEPTED.false in header_here))
-
-pub returns-then-i-ne-ACCEPTED : goal.returns-then-i-ne-ACCEPTED
-returns-then-i-ne-ACCEPTED c =
-    let i = index (goal.at.returns-then-i-ne-ACCEPTED c).After-read-i in
-    let both_clauses = answers (goal.at.returns-then-i-ne-ACCEPTED c).Else-answer-ne-ACCEPTED c.refused-then-i-ne-ACCEPTED.result
-    (c.refused-then-i-ne-ACCEPTED.ensures
-    ∙ ap (λ (k : IndexHeader). refused_walk k.refusal) i
-    ∙ sym (index_refused c.args.table.now c.args.index.now c.args.key.now (fits (goal.at.returns-then-i-ne-ACCEPTED c).Else-not-key_fits)
-    (λ z. c.if-i-ne-ACCEPTED.true (ap (λ (k : IndexHeader). k.refusal) i ∙ z)))) in
-    record { value = both_clauses.0; result_value = both_clauses.1 }
-
--- where the index's header is accepted
-
-read-index : (c : Else-i-ne-ACCEPTED) → c.read-i.result ≡ index_of c.args.index.now (numbers_of c.args.table.now).key_length
-read-index c = (let index_here : c.read-i.result ≡ index_of c.args.index.now (numbers_of c.args.table.now).key_length = c.read-i.ensures ∙ ap (λ (h : Header). index_of c.args.index.now h.key_length) ((let header_here : c.read-answer.result.header ≡ numbers_of c.args.table.now = read_numbers c.args.table.now c.read-answer.result c.read-answer.ensures c.if-answer-ne-ACCEPTED.false in header_here)) in index_here)
-
-kept : (c : Else-i-ne-ACCEPTED) → (index_of c.args.index.now (numbers_of c.args.table.now).key_length).refusal ≡ 0
-kept c = ap (λ (i : IndexHeader). i.refusal) (sym (read-index c)) ∙ c.if-i-ne-ACCEPTED.false
+index : (c : In_ok-i) → index_of c.args.index.now (numbers_of c.args.table.now).key_length ≡ Ok c.in_ok-i.i
+index c =
+    let header = read_numbers c.args.table.now _ c.in_ok-table.ensures.its_header refl in
+    sym (rw header at c.in_ok-i.ensures)
 
 pub returns-then-i-eq0 : goal.returns-then-i-eq0
 unfolding found_after
 returns-then-i-eq0 c =
-    let both_clauses = answers (goal.at.returns-then-i-eq0 c).Else-answer-ne-ACCEPTED _
-    (sym (walk_rootless c.args.table.now c.args.index.now c.args.key.now (fits (goal.at.returns-then-i-eq0 c).Else-not-key_fits) (kept (goal.at.returns-then-i-eq0 c).Else-i-ne-ACCEPTED)
-    (ap (λ (k : IndexHeader). k.root) (sym (read-index (goal.at.returns-then-i-eq0 c).Else-i-ne-ACCEPTED)) ∙ c.if-i-eq0.true))) in
-    record { value = both_clauses.0; result_value = both_clauses.1 }
+    let v = c.args in
+    let p = goal.at.returns-then-i-eq0 c in
+    let e = answers p.In_ok-table _ (sym (walk_rootless v.table.now v.index.now v.key.now (fits p.Else-not-key_fits)
+    c.in_ok-i.i (index p.In_ok-i) c.if-i-eq0.true)) in
+    record { value = e.0; result_value = e.1 }
 
-shape : (c : After-shape_of) → c.shape_of.result ≡ shape_of (numbers_of c.args.table.now)
-shape c = c.shape_of.ensures ∙ ap shape_of (header (goal.at.walk_tree-requires c).Else-answer-ne-ACCEPTED)
+pub invariant_of-index : goal.invariant_of-index
+invariant_of-index c =
+    let at = (goal.at.invariant_of-index c).In_ok-i in
+    record { sound = (accepted_index c.args.index.now _ c.in_ok-i.i (index at)).sound }
 
 pub walk_tree-requires : goal.walk_tree-requires
 walk_tree-requires c =
-    let a = numbers_accepted c.args.table.now c.read-answer.result c.read-answer.ensures c.if-answer-ne-ACCEPTED.false in
-    walkable c.args.table.now c.args.index.now c.args.key.now (fits (goal.at.walk_tree-requires c).Else-not-key_fits) (kept (goal.at.walk_tree-requires c).Else-i-ne-ACCEPTED) a _ _ (shape c) (read-index (goal.at.walk_tree-requires c).Else-i-ne-ACCEPTED)
+    let v = c.args in
+    let p = goal.at.walk_tree-requires c in
+    rw (shape p.After-of)
+    (walkable v.table.now v.index.now v.key.now (fits p.Else-not-key_fits) c.in_ok-i.i (index p.In_ok-i)
+    (numbers_accepted v.table.now _ c.in_ok-table.ensures.its_header refl))
 
 pub returns : goal.returns
 returns c =
-    let i = read-index (goal.at.returns c).Else-i-ne-ACCEPTED in
-    let both_clauses = answers (goal.at.returns c).Else-answer-ne-ACCEPTED c.walk_tree.result
-    (c.walk_tree.ensures
-    ∙ walk_same c.args.table.now c.args.index.now c.args.key.now _ _ (shape (goal.at.returns c).After-shape_of) i
-    ∙ sym
-    (walk_rooted c.args.table.now c.args.index.now c.args.key.now (fits (goal.at.returns c).Else-not-key_fits) (kept (goal.at.returns c).Else-i-ne-ACCEPTED)
-    (λ z. c.if-i-eq0.false (ap (λ (k : IndexHeader). k.root) i ∙ z)))) in
-    record { value = both_clauses.0; result_value = both_clauses.1 }
+    let v = c.args in
+    let p = goal.at.returns c in
+    let bytes = c.of.ensures.bytes ∙ c.in_ok-table.ensures.its_bytes in
+    let tree = rw (bytes, shape p.After-of) at c.walk_tree.ensures in
+    let e = answers p.In_ok-table c.walk_tree.result
+    (tree ∙ sym (walk_rooted v.table.now v.index.now v.key.now (fits p.Else-not-key_fits) c.in_ok-i.i (index p.In_ok-i)
+    c.if-i-eq0.false)) in
+    record { value = e.0; result_value = e.1 }

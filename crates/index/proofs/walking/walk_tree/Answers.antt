@@ -1,60 +1,64 @@
--- `walk_tree` meets its contract: the walk from the present block, at the present level and count, is the whole walk.
+-- `walk_tree` meets its contract: the walk from the present block, at the level that is left, is the whole walk.
 -- Assumes nothing.
-use mathlib.Core.Path.{refl, sym, ap, ◌∙◌}
-use Rattle.index.specs.Steps.{descent_number}
-use Rattle.index.specs.Walk.{found_after, refused_walk}
-use Rattle.index.specs.declared.entries.Descent.{Descent}
-use Rattle.index.specs.declared.entries.Descent.TheVariants.{Read}
+use Rattle.std.specs.Prelude.{Ok, Err}
+use Rattle.std.proofs.lemmas.Result.{err_from_is_err_and}
+use Prim.Native.Nat.{◌-◌, ◌+◌}
+use mathlib.Core.Path.{◌≡◌, sym, ap, ◌∙◌}
+use native.Mathlib.Nat.{sub-zero}
+use native.Mathlib.Omega.{arith}
+use Rattle.index.specs.Walk.{found_after}
 use Rattle.index.proofs.WalkLaws.{walk_refused, walk_absent, walk_down, walk_end}
-use borrow.Author.Rules.{rules}
 use Rattle.index.proofs.walking.walk_tree.Goals as goal
 
-pub loop-level-init : goal.loop-level-init
-loop-level-init c = (search rules, refl)
+pub loop-reads-init : goal.loop-reads-init
+loop-reads-init c = rw sub-zero
 
--- at a level of index blocks
+pub descend-requires : goal.descend-requires
+descend-requires c = c.requires.size
 
-pub descend-answer-requires : goal.descend-answer-requires
-descend-answer-requires c = c.requires.entries
+pub returns-in_err-next : goal.returns-in_err-next
+returns-in_err-next c =
+    let v = c.args in
+    let t = v.table.now in
+    let x = v.index.now in
+    let l = c.loop-reads in
+    let p = err_from_is_err_and c.from_residual.result c.from_residual.ensures.1 in
+    p.1 ∙ ap Err p.2
+    ∙ sym (l.invariant
+    ∙ walk_refused t.bytes.now t.shape x.bytes.now x.shape v.key.now l.block l.reads (v.levels - l.reads)
+    (omega arith) (sym c.in_err-next.ensures))
 
--- the refusal's number is the descent's
 pub returns-in_default : goal.returns-in_default
-unfolding descent_number
-returns-in_default c =
-    let answer = c.descend-answer.ensures in
-    c.refused.ensures
-    ∙ ap refused_walk (c.number.ensures ∙ ap descent_number c.in_default.is)
-    ∙ sym (c.loop-level.invariant.1
-    ∙ walk_refused c.args.table.now c.args.shape c.args.index.now c.args.i.shape c.args.key.now c.loop-level.block c.loop-level.reads c.loop-level.level c.loop-level-test.true c.in_default.field-0
-    (sym answer ∙ c.in_default.is))
-
-pub returns-in_default-below : goal.returns-in_default-below
 unfolding found_after
-returns-in_default-below c =
-    sym (c.loop-level.invariant.1
-    ∙ walk_absent c.args.table.now c.args.shape c.args.index.now c.args.i.shape c.args.key.now c.loop-level.block c.loop-level.reads c.loop-level.level c.loop-level-test.true
-    (sym c.descend-answer.ensures ∙ c.in-Read.is
-    ∙ ap {B = Descent} Read c.in_default-below.is))
+returns-in_default c =
+    let v = c.args in
+    let t = v.table.now in
+    let x = v.index.now in
+    let l = c.loop-reads in
+    sym (l.invariant
+    ∙ walk_absent t.bytes.now t.shape x.bytes.now x.shape v.key.now l.block l.reads (v.levels - l.reads)
+    (omega arith) (sym c.in_ok-next.ensures ∙ ap Ok c.in_default.is))
 
-pub loop-level-preserved : goal.loop-level-preserved
-loop-level-preserved c = (
-  search rules,
-  c.loop-level.invariant.1
-      ∙ walk_down c.args.table.now c.args.shape c.args.index.now c.args.i.shape c.args.key.now c.loop-level.block c.loop-level.reads c.loop-level.level c.loop-level-test.true
-      c.in-Block.next (sym c.descend-answer.ensures
-      ∙ c.in-Read.is ∙ ap {B = Descent} Read c.in-Block.is),
-)
+pub loop-reads-preserved : goal.loop-reads-preserved
+loop-reads-preserved c =
+    let v = c.args in
+    let t = v.table.now in
+    let x = v.index.now in
+    let l = c.loop-reads in
+    let e : v.levels - l.reads - 1 ≡ v.levels - (l.reads + 1) = omega arith in
+    l.invariant
+    ∙ walk_down t.bytes.now t.shape x.bytes.now x.shape v.key.now l.block l.reads (v.levels - l.reads)
+    (omega arith) c.in-Some.next (sym c.in_ok-next.ensures ∙ ap Ok c.in-Some.is) ∙ rw e
 
 pub find_in_data-requires : goal.find_in_data-requires
-find_in_data-requires c = (
-  c.requires.sound,
-  c.requires.short,
-)
+find_in_data-requires c = c.requires.short
 
 pub returns : goal.returns
 returns c =
-    let l = c.loop-level in
     let v = c.args in
+    let t = v.table.now in
+    let x = v.index.now in
+    let l = c.loop-reads in
     c.find_in_data.ensures
-    ∙ sym (l.invariant.1 ∙ walk_end v.table.now v.shape v.index.now v.i.shape v.key.now l.block
-    l.reads l.level c.loop-level-test.false)
+    ∙ sym (l.invariant
+    ∙ walk_end t.bytes.now t.shape x.bytes.now x.shape v.key.now l.block l.reads v.levels (omega arith))

@@ -1,14 +1,13 @@
 -- What holds on the way in `walk_tree`.
 use mathlib.Core.Path.{◌≡◌}
-use Prim.Native.Nat.{◌+◌, ◌≤◌}
-use Rattle.index.specs.Header.{most_levels}
-use Rattle.index.specs.Walk.{walk_from, from_root}
+use Prim.Native.Nat.{◌-◌}
+use Rattle.index.specs.Walk.{walk_from}
+use Rattle.index.specs.Steps.{from_block}
 use Rattle.index.proofs.walking.walk_tree.Given as goal
 
-abbrev pub invariant-loop-level : goal.invariant-loop-level
-invariant-loop-level l =
-    (l.reads + l.level ≤ most_levels) × (from_root l.table l.shape l.index l.i l.key ≡ walk_from l.table l.shape l.index l.i.shape l.key l.level
-    l.block l.reads)
-
-abbrev pub decreases-loop-level : goal.decreases-loop-level
-decreases-loop-level l = l.level
+abbrev pub invariant-loop-reads : goal.invariant-loop-reads
+invariant-loop-reads l =
+    let t = l.table in
+    let x = l.index in
+    from_block t x l.key l.levels l.root
+    ≡ walk_from t.bytes.now t.shape x.bytes.now x.shape l.key (l.levels - l.reads) l.block l.reads

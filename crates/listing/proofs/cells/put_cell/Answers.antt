@@ -1,4 +1,5 @@
 -- `put_cell` meets its contract: a bar, then the value or the refusal. Assumes nothing.
+use mathlib.Core.Path.{refl, ◌∙◌}
 use mathlib.Core.List.{[], ◌∷◌}
 use Rattle.buffer.specs.Text.{decimal}
 use Rattle.buffer.proofs.PieceLaws.{room_first_lem, room_then, room_as, wrote_then, wrote_as}
@@ -11,33 +12,35 @@ put_byte-behind-requires c = room_first_lem (bar ∷ []) (cell_text _) c.require
 
 pub put_value-requires : goal.put_value-requires
 put_value-requires c =
-    let e = c.in-Is.is in
+    let e = c.in-Ok.is in
     let p = c.requires in
     let r = room_then (bar ∷ []) (cell_text _) p.room c.put_byte-behind.ensures in
     record { room = room_as (value_text_lem _ _ _ e) r; printable = value_printable _ _ _ e p.printable_cell }
 
 pub put_byte-number_at-requires : goal.put_byte-number_at-requires
 put_byte-number_at-requires c =
-    let e = c.in-Refused.is in
+    let e = c.in-Err.is in
     let p = c.requires in
     let r = room_then (bar ∷ []) (cell_text _) p.room c.put_byte-behind.ensures in
-    room_first_lem (bang ∷ []) (decimal _) (room_as (refused_text_lem _ _ _ e) r)
+    room_first_lem (bang ∷ []) (decimal _) (room_as (refused_text_lem _ _ _ _ e refl) r)
 
 pub put_decimal-requires : goal.put_decimal-requires
 put_decimal-requires c =
-    let e = c.in-Refused.is in
+    let e = c.in-Err.is in
     let r = room_then (bar ∷ []) (cell_text _) c.requires.room c.put_byte-behind.ensures in
-    room_then (bang ∷ []) (decimal _) (room_as (refused_text_lem _ _ _ e) r) c.put_byte-number_at.ensures
+    let text = refused_text_lem _ _ _ _ e (c.from-in-Err.ensures ∙ c.from.ensures) in
+    room_then (bang ∷ []) (decimal _) (room_as text r) c.put_byte-number_at.ensures
 
-pub returns-in-Is : goal.returns-in-Is
-returns-in-Is c =
-    let e = c.in-Is.is in
+pub returns-in-Ok : goal.returns-in-Ok
+returns-in-Ok c =
+    let e = c.in-Ok.is in
     let a = c.put_byte-behind.ensures in
     wrote_then (bar ∷ []) (cell_text _) a (wrote_as (value_text_lem _ _ _ e) c.put_value.ensures)
 
-pub returns-in-Refused : goal.returns-in-Refused
-returns-in-Refused c =
-    let e = c.in-Refused.is in
+pub returns-in-Err : goal.returns-in-Err
+returns-in-Err c =
+    let e = c.in-Err.is in
     let a = c.put_byte-behind.ensures in
+    let l = c.from-in-Err.ensures ∙ c.from.ensures in
     let w = wrote_then (bang ∷ []) (decimal _) c.put_byte-number_at.ensures c.put_decimal.ensures in
-    wrote_then (bar ∷ []) (cell_text _) a (wrote_as (refused_text_lem _ _ _ e) w)
+    wrote_then (bar ∷ []) (cell_text _) a (wrote_as (refused_text_lem _ _ _ _ e l) w)

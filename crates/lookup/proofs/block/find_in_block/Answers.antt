@@ -9,10 +9,10 @@ use Rattle.words.specs.Order.{is_same}
 use Rattle.lookup.specs.Sought.{is_sought}
 use Rattle.lookup.proofs.FirstLaws.{places_none, places_hit, places_miss}
 use Rattle.lookup.proofs.block.find_in_block.Goals as goal
-use Rattle.lookup.proofs.block.find_in_block.Goals.{After-is_same}
+use Rattle.lookup.proofs.block.find_in_block.Goals.{After-is_eq}
 
 pub loop-place-init : goal.loop-place-init
-loop-place-init c = (search rules, rw sub-zero)
+loop-place-init c = rw sub-zero
 
 pub compare-requires : goal.compare-requires
 compare-requires c =
@@ -27,38 +27,30 @@ compare-requires c =
     )
 
 -- the test is the definition's
-tested : (c : After-is_same) → let l = c.loop-place in
-    let v = c.args in
-    is_sought v.table.now v.shape v.key.now
-    (record { block = v.block; place = l.place }) ≡ c.is_same.result
+tested : (c : After-is_eq) → let v = c.args in
+    is_sought v.table.now v.shape v.key.now (record { block = v.block; place = c.loop-place.place }) ≡ c.is_eq.result
 tested c =
-    let v = c.args in
-    sym (c.is_same.ensures
-    ∙ ap is_same c.compare.ensures
-    ∙ rw (c.record_at-at.ensures, take-length))
+    sym (c.is_eq.ensures ∙ ap is_same c.compare.ensures ∙ rw (c.record_at-at.ensures, take-length))
 
 pub overflow_cast-result : goal.overflow_cast-result
 overflow_cast-result c = let h = c.requires.high in search rules
 
-pub returns-then-is_same : goal.returns-then-is_same
-returns-then-is_same c =
+pub returns-then-is_eq : goal.returns-then-is_eq
+returns-then-is_eq c =
     let l = c.loop-place in
     let v = c.args in
-    sym (l.invariant.1 ∙ places_hit v.table.now v.shape v.key.now v.block l.place v.count
-    c.loop-place-test.true (tested (goal.at.returns-then-is_same c).After-is_same ∙ c.if-is_same.true))
+    sym (l.invariant ∙ places_hit v.table.now v.shape v.key.now v.block l.place v.count
+    c.loop-place-test.true (tested (goal.at.returns-then-is_eq c).After-is_eq ∙ c.if-is_eq.true))
 
 pub loop-place-preserved : goal.loop-place-preserved
 loop-place-preserved c =
     let l = c.loop-place in
-    let v = c.args in (
-      search rules,
-      l.invariant.1 ∙ places_miss v.table.now v.shape v.key.now v.block l.place v.count
-          c.loop-place-test.true (tested (goal.at.loop-place-preserved c).After-is_same ∙ c.if-is_same.false),
-    )
+    let v = c.args in
+    l.invariant ∙ places_miss v.table.now v.shape v.key.now v.block l.place v.count
+    c.loop-place-test.true (tested (goal.at.loop-place-preserved c).After-is_eq ∙ c.if-is_eq.false)
 
 pub returns : goal.returns
 returns c =
     let l = c.loop-place in
     let v = c.args in
-    sym (l.invariant.1 ∙ places_none v.table.now v.shape v.key.now v.block l.place v.count
-    c.loop-place-test.false)
+    sym (l.invariant ∙ places_none v.table.now v.shape v.key.now v.block l.place v.count c.loop-place-test.false)

@@ -3,22 +3,20 @@ use Rattle.std.proofs.Common.{◌∙◌}
 use Rattle.numbers.proofs.BlobLaws.{given_blank, given_table, given_mb, given_refusal}
 use Rattle.numbers.proofs.blobs.give_blob.Goals as goal
 
-pub returns-in-Blank : goal.returns-in-Blank
-returns-in-Blank c =
-    let v = c.args in
-    c.with_part.ensures ∙ given_blank v.part.now v.blob c.in-Blank.is
+pub returns-in-Ok-Blank : goal.returns-in-Ok-Blank
+returns-in-Ok-Blank c =
+    let b = c.in-Ok-Blank in
+    c.with_part.ensures ∙ given_blank c.args.part.now _ b.field-0 b.is (rw b.is at b.field-0-is)
 
-pub returns-in-InTable : goal.returns-in-InTable
-returns-in-InTable c =
-    let v = c.args in
-    c.with_part-in-InTable.ensures ∙ given_table v.part.now v.blob c.in-InTable.start c.in-InTable.len c.in-InTable.is
+pub returns-in-Ok-InTable : goal.returns-in-Ok-InTable
+returns-in-Ok-InTable c =
+    let b = c.in-Ok-InTable in
+    c.with_part-in-Ok-InTable.ensures ∙ given_table c.args.part.now _ b.field-0 b.its b.is (rw b.is at b.field-0-is)
 
-pub returns-in-InMb : goal.returns-in-InMb
-returns-in-InMb c =
-    let v = c.args in
-    c.with_part-in-InMb.ensures ∙ given_mb v.part.now v.blob c.in-InMb.start c.in-InMb.len c.in-InMb.is
+pub returns-in-Ok-InMb : goal.returns-in-Ok-InMb
+returns-in-Ok-InMb c =
+    let b = c.in-Ok-InMb in
+    c.with_part-in-Ok-InMb.ensures ∙ given_mb c.args.part.now _ b.field-0 b.its b.is (rw b.is at b.field-0-is)
 
-pub returns-in-Refused : goal.returns-in-Refused
-returns-in-Refused c =
-    let v = c.args in
-    c.refuse.ensures ∙ given_refusal v.part.now v.blob c.in-Refused.number c.in-Refused.is
+pub returns-in-Err : goal.returns-in-Err
+returns-in-Err c = rw c.from.ensures (c.refuse.ensures ∙ given_refusal c.args.part.now _ _ c.in-Err.is)

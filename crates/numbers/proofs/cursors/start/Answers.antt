@@ -1,17 +1,19 @@
--- `start` meets its contract: with no number 1 to 7, then 14; else what starting a cursor gives. Assumes nothing.
-use Rattle.std.proofs.Common.{sym, ap, ◌∙◌}
-use Rattle.numbers.specs.Cursor.{start_given}
-use Rattle.numbers.proofs.CursorLaws.{start_none, start_some}
+-- `start` meets its contract: what starting gives, and for a refusal every number 0. Assumes nothing.
+use Rattle.std.proofs.Common.{length}
+use Rattle.cursor.specs.Cursor.{start_of}
+use Rattle.numbers.specs.Cursor.{refusal_only, start_given, start_lent}
+use Rattle.numbers.proofs.LentLaws.{room_back}
 use Rattle.numbers.proofs.cursors.start.Goals as goal
 
-pub returns-then-cursor-lt1 : goal.returns-then-cursor-lt1
-returns-then-cursor-lt1 c =
-    let v = c.args in
-    start_none v.table.now v.cursor.now c.if-cursor-lt1.true c.no_room.result c.no_room.ensures
+pub put-requires : goal.put-requires
+put-requires c =
+    let t = c.args.table.now in
+    (room_back t (length c.args.cursor.now) 1 (refusal_only (start_of t)) c.in-Ok.ensures).1
 
-pub returns : goal.returns
-returns c =
-    let v = c.args in
-    c.started.ensures
-    ∙ ap (start_given v.cursor.now) c.start.ensures.value
-    ∙ sym (start_some v.table.now v.cursor.now c.if-cursor-lt1.false)
+pub returns-in-Ok : goal.returns-in-Ok
+unfolding start_lent start_given
+returns-in-Ok c = rw (← c.in-Ok.ensures) c.put.ensures
+
+pub returns-in-Err : goal.returns-in-Err
+unfolding start_lent start_given
+returns-in-Err c = rw (← c.in-Err.ensures, c.from.ensures) c.refuse.ensures

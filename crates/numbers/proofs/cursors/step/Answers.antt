@@ -1,19 +1,20 @@
--- `step` meets its contract: with no number 1 to 7, then 14; else what stepping the first number's cursor gives.
--- Assumes nothing.
-use Rattle.std.proofs.Common.{sym, ap, ◌∙◌}
+-- `step` meets its contract: what stepping gives, and for a refusal its number and no change. Assumes nothing.
+use Rattle.std.proofs.Common.{length, get_or}
 use Rattle.cursor.specs.Cursor.{step_of}
-use Rattle.numbers.specs.Cursor.{step_given}
-use Rattle.numbers.proofs.CursorLaws.{step_none, step_some}
+use Rattle.numbers.specs.Cursor.{cursor_in, refusal_only, step_given, step_lent}
+use Rattle.numbers.proofs.LentLaws.{room_back}
 use Rattle.numbers.proofs.cursors.step.Goals as goal
 
-pub returns-then-cursor-lt1 : goal.returns-then-cursor-lt1
-returns-then-cursor-lt1 c =
-    let v = c.args in
-    step_none v.table.now v.cursor.now c.if-cursor-lt1.true c.no_room.result c.no_room.ensures
+pub put-requires : goal.put-requires
+put-requires c =
+    let t = c.args.table.now in
+    let lent = c.args.cursor.now in
+    (room_back t (length lent) 1 (refusal_only (step_of t (cursor_in (get_or lent 0 0)))) c.in-Ok.ensures).1
 
-pub returns : goal.returns
-returns c =
-    let v = c.args in
-    c.stepped.ensures
-    ∙ ap (step_given v.cursor.now) (c.step.ensures.value ∙ ap (step_of v.table.now) c.unpack-c.ensures)
-    ∙ sym (step_some v.table.now v.cursor.now c.if-cursor-lt1.false)
+pub returns-in-Ok : goal.returns-in-Ok
+unfolding step_lent step_given
+returns-in-Ok c = rw (← c.in-Ok.ensures) c.put.ensures
+
+pub returns-in-Err : goal.returns-in-Err
+unfolding step_lent step_given
+returns-in-Err c = rw (← c.in-Err.ensures, c.from-in-Err.ensures, c.from.ensures)

@@ -1,59 +1,51 @@
 -- `field_in` meets its contract: 13, or the field with its name, which every field has. Assumes nothing.
-use Rattle.std.proofs.Common.{◌≡◌, ◌+◌, ◌-◌, ◌*◌, ◌≤◌, length, sym, ◌∙◌, arith}
+use Rattle.std.proofs.Common.{◌≡◌, ◌+◌, ◌*◌, ◌≤◌, length, sym, ap, ◌∙◌, arith, Some, Err}
 use Rattle.header.specs.Numbers.{field_of}
-use Rattle.header.specs.declared.field.Field.TheVariants as Fie
-use Rattle.header.proofs.AcceptedLaws.{field_bounds}
-use Rattle.numbers.proofs.FieldLaws.{field_missing, always_named, field_named}
+use Rattle.numbers.proofs.FieldLaws.{field_missing, pair_inside, field_unnamed, field_named}
+use Rattle.numbers.proofs.LentLaws.{leaves, same_refusal}
 use Rattle.numbers.proofs.fields.field_in.Goals as goal
-use Rattle.numbers.proofs.fields.field_in.Goals.{In-Is}
+use Rattle.numbers.proofs.fields.field_in.Goals.{In_ok-found}
 
--- the field is there
-found : (c : In-Is) → let v = c.args in
-    field_of v.table.now v.h v.field ≡ Fie.Is c.in-Is.kind c.in-Is.width c.in-Is.offset
-found c = sym c.field_of.ensures ∙ c.in-Is.is
+pub returns-in_err-found : goal.returns-in_err-found
+returns-in_err-found c =
+    let t = c.args.table.now in
+    let q = c.in_err-found.ensures in
+    leaves _ c.from_residual.ensures.1
+    ∙ ap Err (same_refusal (rw q.ok_part at q.value))
+    ∙ sym (field_missing t.bytes.now t.header c.args.field (sym c.field.ensures ∙ q.ok_part))
 
--- so its pair is inside the table
-bounds : (c : In-Is) → let v = c.args in
-    (1 ≤ v.field) × (v.h.area + 2 * v.field ≤ length v.table.now)
-bounds c =
-    let v = c.args in
-    let a = c.requires.accepted in
-    let d = field_bounds v.table.now v.h a v.field c.in-Is.kind c.in-Is.width c.in-Is.offset (found c) in
-    (d.least, omega (arith, d.most, a.area_inside, a.whole))
+-- the field that is found
+found : (c : In_ok-found) → let t = c.args.table.now in
+    field_of t.bytes.now t.header c.args.field ≡ Some c.in_ok-found.found
+found c = sym c.field.ensures ∙ c.in_ok-found.ensures.ok_part
 
-pub returns-in_default : goal.returns-in_default
-returns-in_default c =
-    let v = c.args in
-    c.refuse.ensures
-    ∙ field_missing v.table.now v.numbers.now v.h v.field
-    (sym c.field_of.ensures ∙ c.in_default.is)
+-- has its pair inside the table
+inside : (c : In_ok-found) → let t = c.args.table.now in
+    (1 ≤ c.args.field) × (t.header.area + 2 * c.args.field ≤ length t.bytes.now)
+inside c =
+    let t = c.args.table.now in pair_inside t.bytes.now t.header c.args.field _ (found c) t.accepted
 
-pub returns-in_default-name_in : goal.returns-in_default-name_in
-returns-in_default-name_in c =
-    let v = c.args in
-    absurd (always_named v.table.now v.numbers.now v.h v.field c.in-Is.kind c.in-Is.width c.in-Is.offset
-    (found (goal.at.returns-in_default-name_in c).In-Is) c.requires.accepted _ (sym c.name_in.ensures ∙ c.in_default-name_in.is))
+pub returns-in_err-name : goal.returns-in_err-name
+returns-in_err-name c =
+    let t = c.args.table.now in
+    leaves _ c.from_residual-in_err-name.ensures.1
+    ∙ sym (field_unnamed t.bytes.now t.header c.args.field _ (found (goal.at.returns-in_err-name c).In_ok-found) _
+    (sym c.in_err-name.ensures))
 
 pub overflow_sub-code : goal.overflow_sub-code
-overflow_sub-code c = let q = bounds (goal.at.overflow_sub-code c).In-Is in omega (arith, q.0, q.1)
+overflow_sub-code c = (inside (goal.at.overflow_sub-code c).In_ok-found).0
 
 pub overflow_mul-code : goal.overflow_mul-code
-overflow_mul-code c = let q = bounds (goal.at.overflow_mul-code c).In-Is in omega (arith, q.0, q.1)
+overflow_mul-code c = omega (arith, inside (goal.at.overflow_mul-code c).In_ok-found)
 
 pub overflow_add-code : goal.overflow_add-code
-overflow_add-code c = let q = bounds (goal.at.overflow_add-code c).In-Is in omega (arith, q.0, q.1)
+overflow_add-code c = omega (arith, inside (goal.at.overflow_add-code c).In_ok-found)
 
-pub bounds-table-h : goal.bounds-table-h
-bounds-table-h c = let q = bounds (goal.at.bounds-table-h c).In-Is in omega (arith, q.0, q.1)
-
-pub overflow_cast-its : goal.overflow_cast-its
-overflow_cast-its c =
-    let v = c.args in
-    omega (arith, c.type_inv.table (v.h.area + 2 * (v.field - 1)))
+pub bounds-table-table : goal.bounds-table-table
+bounds-table-table c = omega (arith, inside (goal.at.bounds-table-table c).In_ok-found)
 
 pub returns : goal.returns
 returns c =
-    let v = c.args in
-    c.answer.ensures
-    ∙ field_named v.table.now v.numbers.now v.h v.field c.in-Is.kind c.in-Is.width c.in-Is.offset
-    (found (goal.at.returns c).In-Is) c.in-At.start c.in-At.len (sym c.name_in.ensures ∙ c.in-At.is) _ c.kind_number.ensures
+    let t = c.args.table.now in
+    sym (field_named t.bytes.now t.header c.args.field _ (found (goal.at.returns c).In_ok-found) _
+    (sym c.in_ok-name.ensures) _ c.kind_number.ensures)

@@ -13,19 +13,20 @@ pub returns-in-Blank : goal.returns-in-Blank
 returns-in-Blank c = blank_list _ c.in-Blank.is
 
 pub returns-in-Short : goal.returns-in-Short
-returns-in-Short c = short_list _ c.in-Short.z _ c.in-Short.is (c.short_bits.ensures ∙ ap signed_bits (search rules))
+returns-in-Short c = short_list _ c.in-Short.z _ c.in-Short.is (c.signed_bits.ensures ∙ ap signed_bits (search rules))
 
 pub returns-in-Long : goal.returns-in-Long
-returns-in-Long c = long_list _ c.in-Long.z _ c.in-Long.is (c.long_bits.ensures ∙ ap signed_bits (search rules))
+returns-in-Long c =
+    long_list _ c.in-Long.z _ c.in-Long.is (c.signed_bits-in-Long.ensures ∙ ap signed_bits (search rules))
 
 pub returns-in-Date : goal.returns-in-Date
-returns-in-Date c = date_list _ c.in-Date.day c.in-Date.is
+returns-in-Date c = date_list _ c.in-Date.day _ c.in-Date.is c.from-in-Date.ensures
 
 pub returns-in-Number : goal.returns-in-Number
 returns-in-Number c = number_list _ c.in-Number.x c.in-Number.is
 
 pub returns-in-Logical : goal.returns-in-Logical
-returns-in-Logical c = logical_list _ c.in-Logical.b c.in-Logical.is
+returns-in-Logical c = logical_list _ c.in-Logical.b _ c.in-Logical.is c.from-in-Logical.ensures
 
 pub returns-in-Text : goal.returns-in-Text
 returns-in-Text c = text_list _ c.in-Text.start c.in-Text.len c.in-Text.is

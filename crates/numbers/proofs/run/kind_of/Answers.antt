@@ -35,4 +35,5 @@ returns-in-9 c = by_row c.args.code c.args.width c.requires Kin.Logical 1 1 (rw 
 
 pub returns-in_default : goal.returns-in_default
 returns-in_default c =
-    by_rest c.args.code c.args.width c.requires (search rules) (search rules) (search rules) (search rules) (search rules) (search rules) (search rules)
+    by_rest c.args.code c.args.width c.requires (search rules) (search rules) (search rules) (search rules)
+    (search rules) (search rules) (search rules)

@@ -11,7 +11,7 @@ use Rattle.numbers.proofs.run.put_cells.Goals.{In-loop-field}
 pub loop-field-init : goal.loop-field-init
 loop-field-init c =
     let v = c.args in
-    (refl, run_begins v.table.now v.area v.fields v.start v.cells.now)
+    (refl, run_begins v.table.now v.run.area v.run.fields v.run.start v.cells.now)
 
 pub overflow_mul-pair : goal.overflow_mul-pair
 overflow_mul-pair c = omega (arith, c.requires.inside.pairs)
@@ -24,34 +24,38 @@ overflow_add-width c = omega (arith, c.requires.inside.pairs)
 
 -- the next cell is inside the table
 inside : (c : In-loop-field) → c.loop-field.at
-    + width_at c.args.table.now c.args.area
+    + width_at c.args.table.now c.args.run.area
     c.loop-field.field ≤ length c.args.table.now
 inside c =
     let k = c.loop-field in
     let v = c.args in
-    run_inside v.table.now v.area v.fields v.start v.cells.now k.cells k.at k.end k.field
+    run_inside v.table.now v.run.area v.run.fields v.run.start v.cells.now k.cells k.at k.end k.field
     k.invariant.1 c.requires.inside c.loop-field-test.true
 
 pub bounds-table-pair : goal.bounds-table-pair
 bounds-table-pair c = omega (arith, c.requires.inside.pairs, c.loop-field-test.true)
 
 pub overflow_cast-width : goal.overflow_cast-width
-overflow_cast-width c = omega (arith, c.type_inv.table (c.args.area + 2 * c.loop-field.field + 1))
+overflow_cast-width c = omega (arith, c.type_inv.table (c.args.run.area + 2 * c.loop-field.field + 1))
 
 pub bounds-table-pair-in-loop-field : goal.bounds-table-pair-in-loop-field
 bounds-table-pair-in-loop-field c = omega (arith, c.requires.inside.pairs, c.loop-field-test.true)
 
 pub cell_by_pair-cell-requires : goal.cell_by_pair-cell-requires
-cell_by_pair-cell-requires c = record { width_nonzero = c.requires.inside.known c.loop-field.field c.loop-field-test.true; width_in_bounds = inside (goal.at.cell_by_pair-cell-requires c).In-loop-field }
+cell_by_pair-cell-requires c =
+    record {
+      known = c.requires.inside.known c.loop-field.field c.loop-field-test.true;
+      width_in_bounds = inside (goal.at.cell_by_pair-cell-requires c).In-loop-field;
+    }
 
 pub cell_list-requires : goal.cell_list-requires
 cell_list-requires c = pair_finite _ _ _ _ _ c.cell_by_pair-cell.ensures
 
-pub put_numbers-end-requires : goal.put_numbers-end-requires
-put_numbers-end-requires c =
+pub put-end-requires : goal.put-end-requires
+put-end-requires c =
     let k = c.loop-field in
     let v = c.args in
-    run_room v.table.now v.area v.fields v.start v.cells.now k.cells k.at k.end k.field
+    run_room v.table.now v.run.area v.run.fields v.run.start v.cells.now k.cells k.at k.end k.field
     k.invariant.1 (search rules) c.requires.fields_in_bounds _ (ap length c.cell_list.ensures ∙ cell_four _)
 
 pub overflow_add-at : goal.overflow_add-at
@@ -61,17 +65,17 @@ pub loop-field-preserved : goal.loop-field-preserved
 loop-field-preserved c =
     let k = c.loop-field in
     let v = c.args in
-    let is = run_cell v.table.now v.area v.fields v.start v.cells.now k.cells k.at k.end
+    let is = run_cell v.table.now v.run.area v.run.fields v.run.start v.cells.now k.cells k.at k.end
     k.field k.invariant.1 c.cell_by_pair-cell.result
     c.cell_by_pair-cell.ensures in (
-      wrote_length c.put_numbers-end.ensures ∙ k.invariant.0,
-      run_more v.table.now v.area v.fields v.start v.cells.now k.cells k.at k.end k.field
-          k.invariant.1 (search rules) _ _ _ _ is c.cell_list.ensures c.put_numbers-end.ensures,
+      wrote_length c.put-end.ensures ∙ k.invariant.0,
+      run_more v.table.now v.run.area v.run.fields v.run.start v.cells.now k.cells k.at k.end k.field
+          k.invariant.1 (search rules) _ _ _ _ is c.cell_list.ensures c.put-end.ensures,
     )
 
 pub returns : goal.returns
 returns c =
     let l = c.loop-field in
     let v = c.args in
-    run_ends v.table.now v.area v.fields v.start v.cells.now l.cells l.at l.end l.field
+    run_ends v.table.now v.run.area v.run.fields v.run.start v.cells.now l.cells l.at l.end l.field
     l.invariant.1 (search rules) c.requires.fields_in_bounds

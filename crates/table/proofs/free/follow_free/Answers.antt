@@ -18,8 +18,8 @@ pub loop-block-init : goal.loop-block-init
 loop-block-init c =
     let v = c.args in (
       0,
-      begin (next_of v.table.now v.shape) any_two 2 keep 0 v.shape.blocks
-          v.first v.marks.now c.requires.1,
+      begin (next_of v.file.now.bytes.now v.file.now.shape) any_two 2 keep 0 v.file.now.shape.blocks
+          v.first v.marks.now c.requires,
     )
 
 pub shape_of-marks-then-not-is_unmarked : goal.shape_of-marks-then-not-is_unmarked
@@ -29,12 +29,12 @@ pub returns-then-not-is_unmarked : goal.returns-then-not-is_unmarked
 returns-then-not-is_unmarked c =
     let v = c.args in
     let l = c.loop-block in
-    let next = next_of v.table.now v.shape in
+    let next = next_of v.file.now.bytes.now v.file.now.shape in
     let has-mark : is_unmarked l.marks l.block ≡ false = sym c.is_unmarked.ensures
     ∙ c.if-not-is_unmarked.true in
     record {
       judged =
-          broken next any_two 2 keep 0 (blocks_from v.table.now v.shape v.first) v.marks.now l.marks 0
+          broken next any_two 2 keep 0 (blocks_from v.file.now.bytes.now v.file.now.shape v.first) v.marks.now l.marks 0
           l.invariant.0 l.block c.loop-block-test.true (rw has-mark) l.invariant.1;
       stored = λ e. absurd (false≢true e);
     }
@@ -56,27 +56,31 @@ bounds-marks-block c = omega (arith, here c)
 pub next_of-block-requires : goal.next_of-block-requires
 next_of-block-requires c =
     let v = c.args in
-    let p = c.requires in
-    let high : c.loop-block.block ≤ v.shape.blocks = omega (
+    let u = here (goal.at.next_of-block-requires c).Else-not-is_unmarked in
+    let high : c.loop-block.block ≤ v.file.now.shape.blocks = omega (
       arith,
-      here c,
-      p.1,
+      u,
+      c.requires,
       c.loop-block.invariant.1.same,
     ) in
-    ((here c).low, high, head_inside v.table.now v.shape p.0 c.loop-block.block (here c).low high)
+    (u.low, high, head_inside v.file.now.bytes.now v.file.now.shape v.file.now.sound c.loop-block.block u.low high)
 
 pub loop-block-smaller : goal.loop-block-smaller
-loop-block-smaller c = omega (arith, fewer c.loop-block.marks c.loop-block.block 2 (here (goal.at.loop-block-smaller c).Else-not-is_unmarked) (omega arith))
+loop-block-smaller c =
+    let l = c.loop-block in
+    let u = here (goal.at.loop-block-smaller c).Else-not-is_unmarked in
+    omega (arith, fewer l.marks l.block 2 u (omega arith))
 
 pub loop-block-preserved : goal.loop-block-preserved
 loop-block-preserved c =
     let v = c.args in
     let l = c.loop-block in
-    let next = next_of v.table.now v.shape in (
+    let e = is-unmarked (goal.at.loop-block-preserved c).Else-not-is_unmarked in
+    let next = next_of v.file.now.bytes.now v.file.now.shape in (
       l.block,
       rw c.next_of-block.ensures
-          (step next any_two 2 keep 0 (blocks_from v.table.now v.shape v.first) v.marks.now l.marks 0
-          l.invariant.0 l.block c.loop-block-test.true (omega arith) (is-unmarked (goal.at.loop-block-preserved c).Else-not-is_unmarked) refl
+          (step next any_two 2 keep 0 (blocks_from v.file.now.bytes.now v.file.now.shape v.first) v.marks.now l.marks 0
+          l.invariant.0 l.block c.loop-block-test.true (omega arith) e refl
           l.invariant.1),
     )
 
@@ -87,8 +91,8 @@ pub returns : goal.returns
 returns c =
     let v = c.args in
     let l = c.loop-block in
-    let next = next_of v.table.now v.shape in
-    let whole = blocks_from v.table.now v.shape v.first in
+    let next = next_of v.file.now.bytes.now v.file.now.shape in
+    let whole = blocks_from v.file.now.bytes.now v.file.now.shape v.first in
     record {
       judged =
           whole_judged next any_two 2 keep 0 whole v.marks.now l.marks 0 l.invariant.0 l.block

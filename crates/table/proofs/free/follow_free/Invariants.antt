@@ -11,7 +11,12 @@ abbrev pub keep : ℕ → ℕ → ℕ
 keep s b = s
 
 abbrev pub invariant-loop-block : goal.invariant-loop-block
-invariant-loop-block l = (before : ℕ) × Going (next_of l.table l.shape) any_two 2 keep 0 (blocks_from l.table l.shape l.first) l.initial.marks l.marks 0 before l.block
+invariant-loop-block l =
+    let file = l.file.bytes.now in
+    let shape = l.file.shape in
+    (before : ℕ)
+    × Going (next_of file shape) any_two 2 keep 0 (blocks_from file shape l.first) l.initial.marks l.marks 0 before
+    l.block
 
 abbrev pub decreases-loop-block : goal.decreases-loop-block
 decreases-loop-block l = times 0 l.marks

@@ -8,8 +8,7 @@ use Rattle.table.proofs.keys.ascend.Given as goal
 
 abbrev pub invariant-loop-place : goal.invariant-loop-place
 invariant-loop-place l =
-    (l.place ≤ l.count) × (l.last + l.key ≤ length l.table) × (keys_after l.table l.shape l.key l.block l.from (l.count - l.from)
-    (Last l.before) ≡ keys_after l.table l.shape l.key l.block l.place (l.count - l.place) (Last l.last))
-
-abbrev pub decreases-loop-place : goal.decreases-loop-place
-decreases-loop-place l = l.count - l.place
+    (l.place ≤ l.count)
+    × (l.last + l.key ≤ length l.file.bytes.now)
+    × (keys_after l.file.bytes.now l.file.shape l.key l.block l.from (l.count - l.from) (Last l.before)
+    ≡ keys_after l.file.bytes.now l.file.shape l.key l.block l.place (l.count - l.place) (Last l.last))

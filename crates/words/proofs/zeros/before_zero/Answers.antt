@@ -1,26 +1,20 @@
--- `before_zero` meets its contract: after i turns the first i bytes are no zeros. Assumes nothing.
-use mathlib.Core.Path.{sym, subst}
-use Prim.Native.Nat.{ℕ}
-use native.Mathlib.Nat.{le_antisymm}
-use borrow.Author.Rules.{rules}
-use Rattle.words.proofs.ZeroLaws.{Nonzero, nonzero_none, nonzero_more, before_is, before_whole}
+-- `before_zero` meets its contract: where the first zero is, or how many bytes there are. Assumes nothing.
+use Prim.Native.Nat.{◌+◌, ◌-◌}
+use mathlib.Core.Path.{◌≡◌, ◌∙◌}
+use lib.Dec.{eqb}
+use lib.ListN.{take, drop}
+use Rattle.std.proofs.Common.{rules, tests}
+use Rattle.std.proofs.lemmas.Iterator.{YieldsList-from_slice}
+use Rattle.std.proofs.lemmas.Iterator.Search.{position_from_yields_List}
+use Rattle.std.specs.List.{position}
+use Rattle.words.proofs.ZeroLaws.{before_first}
 use Rattle.words.proofs.zeros.before_zero.Goals as goal
-
-pub loop-i-init : goal.loop-i-init
-loop-i-init c = (search rules, nonzero_none c.args.s.now c.args.at)
-
-pub returns-then-s-at-eq0 : goal.returns-then-s-at-eq0
-returns-then-s-at-eq0 c =
-    let v = c.args in
-    sym (before_is v.s.now v.at v.n c.loop-i.i (search rules) c.loop-i.invariant.1 c.if-s-at-eq0.true)
-
-pub loop-i-preserved : goal.loop-i-preserved
-loop-i-preserved c =
-    let v = c.args in
-    (search rules, nonzero_more v.s.now v.at c.loop-i.i c.loop-i.invariant.1 c.if-s-at-eq0.false)
 
 pub returns : goal.returns
 returns c =
     let v = c.args in
-    sym (before_whole v.s.now v.at v.n (subst (λ (k : ℕ). Nonzero v.s.now v.at k)
-    (le_antisymm c.loop-i.invariant.0 c.loop-i-test.false) c.loop-i.invariant.1))
+    let part = take (v.at + v.n - v.at) (drop v.at v.s.now) in
+    let e : c.position.result ≡ position (λ b. eqb b 0) part =
+    position_from_yields_List (λ b. eqb b 0) _ _ c.position.result c.position.ensures.ran
+    (YieldsList-from_slice part (cc)) (λ x b q k. search (rules, tests)) in
+    c.unwrap_or.ensures ∙ rw e (before_first v.s.now v.at v.n (search rules))

@@ -1,8 +1,0 @@
--- `shape_of` meets its contract. Assumes nothing.
-use mathlib.Core.Path.{refl}
-use Rattle.blocks.specs.Shape.{shape_of}
-use Rattle.blocks.proofs.shape_of.Goals as goal
-
-pub returns : goal.returns
-unfolding shape_of
-returns c = refl

@@ -1,0 +1,8 @@
+-- What holds on the way in `put`.
+use mathlib.Core.Path.{◌≡◌}
+use lib.ListN.{take}
+use lib.Seq.{sets}
+use Rattle.buffer.proofs.put.Given as goal
+
+abbrev pub invariant-loop-i : goal.invariant-loop-i
+invariant-loop-i g l = l.out ≡ sets l.initial.out l.at (take l.i l.piece)

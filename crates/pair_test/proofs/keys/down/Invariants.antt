@@ -1,9 +1,0 @@
--- What holds on the way in `down`.
-use Prim.Native.Nat.{◌≤◌}
-use Rattle.pair_test.proofs.keys.down.Given as goal
-
-abbrev pub invariant-loop-i : goal.invariant-loop-i
-invariant-loop-i l = l.i ≤ l.n
-
-abbrev pub decreases-loop-i : goal.decreases-loop-i
-decreases-loop-i l = l.i

@@ -1,9 +1,0 @@
--- What holds on the way in `copy`.
-use Prim.Native.Nat.{◌≤◌}
-use Rattle.test_lines.proofs.after.copy.Given as goal
-
-abbrev pub invariant-loop-left : goal.invariant-loop-left
-invariant-loop-left l = 0 ≤ l.left
-
-abbrev pub decreases-loop-left : goal.decreases-loop-left
-decreases-loop-left l = l.left
