@@ -10,11 +10,11 @@ use lib.Dec.{lit≤}
 use lib.IntN.{ℤ, pos, negsuc}
 use lib.ListN.{length, length-append}
 use lib.Signed.{lt_z}
-use borrow.Author.Tests.{lt-ltb, le-ltb}
+use borrow.Author.Tests.{lt-ltb, le-ltb, le-leb, lt-leb}
 use Rattle.std.specs.Prelude.{unsigned_abs}
 use Rattle.words.proofs.Cases.{lt_or_ge}
 use Rattle.io.specs.Digits.{hex_digit_ascii, last_digits, IsDigitCount}
-use Rattle.buffer.specs.Text.{places_in, decimal, minus, signed_text, hex_text}
+use Rattle.buffer.specs.Text.{places_in, decimal, minus, signed_text, shifted_text, hex_text}
 
 pub length_digits : (b k n : ℕ) → length (last_digits b k n) ≡ k
 length_digits b zero n = refl
@@ -138,3 +138,14 @@ module _ {y : ℤ} (z : ℤ) (n : ℕ) (same : y ≡ z) (size : n ≡ unsigned_a
 
   pub signed_minus : lt_z y (pos 0) ≡ true → minus ∷ [] ++ decimal n ≡ signed_text z
   signed_minus l = ap (λ (k : ℕ). minus ∷ decimal k) size ∙ minus_size y l ∙ ap signed_text same
+
+-- ---- a signed number, by what it is with `top` added
+
+module _ (top n : ℕ) where
+  pub shifted_plain : top ≤ n → decimal (n - top) ≡ shifted_text top n
+  unfolding shifted_text
+  shifted_plain l = rw (le-leb top n l)
+
+  pub shifted_minus : n < top → minus ∷ [] ++ decimal (top - n) ≡ shifted_text top n
+  unfolding shifted_text
+  shifted_minus l = rw (lt-leb top n l)

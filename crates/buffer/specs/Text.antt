@@ -1,5 +1,5 @@
 -- Numbers as text. Definitions only.
-use Rattle.std.specs.Prelude.{ℕ, zero, suc, ◌/◌, cond, List, ◌∷◌, ltb, ℤ, pos, negsuc}
+use Rattle.std.specs.Prelude.{ℕ, zero, suc, ◌-◌, ◌/◌, cond, List, ◌∷◌, leb, ltb, ℤ, pos, negsuc}
 use Rattle.io.specs.Digits.{last_digits}
 
 -- how many decimal digits a number has, of at most suc `most`
@@ -19,6 +19,10 @@ minus = 45
 unfoldable pub signed_text : ℤ → List ℕ
 signed_text (pos n) = decimal n
 signed_text (negsuc n) = minus ∷ decimal (suc n)
+
+-- the same number by what it is with `top` added
+unfoldable pub shifted_text : ℕ → ℕ → List ℕ
+shifted_text top n = cond (leb top n) (decimal (n - top)) (minus ∷ decimal (top - n))
 
 -- a number of 64 bits as 16 lower-case hex digits, high first
 unfoldable pub hex_text : ℕ → List ℕ

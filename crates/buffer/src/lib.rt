@@ -4,7 +4,7 @@
 
 ghost use Rattle.std.specs.Prelude.{◌≡◌, [], ◌∷◌, length, replicate};
 ghost use Rattle.buffer.specs.Pieces.{Room, Wrote};
-ghost use Rattle.buffer.specs.Text.{decimal, hex_text, signed_text};
+ghost use Rattle.buffer.specs.Text.{decimal, hex_text, shifted_text, signed_text};
 
 // Puts one byte.
 pub fn put_byte(out: &mut [u8], at: usize, byte: u8) -> usize
@@ -41,6 +41,18 @@ pub fn put_decimal(out: &mut [u8], at: usize, n: u64) -> usize
     let mut digits = [0u8; 20];
     let count = io::decimal(n, &mut digits);
     put(out, at, &digits[..count])
+}
+
+// Puts a signed number, given with `top` added: a minus sign where it is below that.
+pub fn put_shifted(out: &mut [u8], at: usize, n: u64, top: u64) -> usize
+    requires { Room out.old at (shifted_text top n) }
+    ensures { Wrote out.old at (shifted_text top n) out.new result }
+{
+    if top <= n {
+        return put_decimal(out, at, n - top);
+    }
+    let behind = put_byte(out, at, b'-');
+    put_decimal(out, behind, top - n)
 }
 
 // Puts a signed number in decimal: a minus sign where it is below 0, and its size.

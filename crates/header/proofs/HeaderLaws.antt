@@ -1,6 +1,6 @@
 -- The answer of a header, rule by rule in document 01's order. Assumes nothing.
 use Prim.Native.Nat.{ℕ, ◌+◌, ◌*◌, ◌≤◌, ◌<◌}
-use mathlib.Core.Path.{◌≡◌, refl, ◌∙◌}
+use mathlib.Core.Path.{◌≡◌, refl, sym, ap, ◌∙◌}
 use mathlib.Core.Bool.{Bool, true, false, cond}
 use mathlib.Core.List.{List}
 use native.Mathlib.Omega.{arith}
@@ -283,6 +283,10 @@ whole_front t = rw (limits_first t (length t) (fields_verdict t (length t))) (go
         ≡ unless_refused (unless_refused v Err (fields_verdict t (length t))) Err (Ok (numbers_of t))
     go (Ok none) = held (leb (stored_of t).header_size (length t)) refl
     go (Err r) = refl
+
+-- so a whole file is refused by the laws of its front
+pub whole_refused : (t : List ℕ) {r : Refusal} → front_answer t (length t) ≡ Err r → header_answer t ≡ Err r
+whole_refused t e = sym (whole_front t) ∙ ap whole_of e
 
 -- ---- reading a whole file: rules 1 to 5, then 6 and 7
 

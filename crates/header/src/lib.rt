@@ -77,8 +77,8 @@ pub fn name(t: &[u8], field: usize) -> &[u8]
 }
 
 // Tries rules 1 to 7 on a file of this length by its front: the header's numbers, or the first broken rule. None,
-// behind 5 and before 6, where the front ends inside the header. A helper of `header::read` and for crates above, and
-// no call for users: its caller has at least 120 bytes of every file that is so long.
+// behind 5 and before 6, where the front ends inside the header. A helper for crates above and no call for users: its
+// caller has at least 120 bytes of every file that is so long.
 pub fn judge(front: &[u8], long: usize) -> Result<Option<Header>, Refusal>
     requires { Front front.now long }
     ensures { result ≡ front_answer front.now long }

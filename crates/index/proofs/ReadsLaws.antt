@@ -118,7 +118,7 @@ module _ (t x key : List ℕ) where
       by_key true f = by_root f (eqb i.root 0) refl
       by_key false f = rw (key_unfit t x key f) (by_refusal 0 i.levels BadArgument)
 
-  -- where the index is refused, so is the walk
+  -- where the index's header is refused, no index block is read
   pub walk_unread : (r : Refusal) → index_of x h.key_length ≡ Err r → Reads 0 0 (walk_of t x key)
   unfolding walk_of
   walk_unread r k =

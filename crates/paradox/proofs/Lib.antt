@@ -1,3 +1,4 @@
 pub mod PackingLaws
 pub mod Demand
 pub mod RefusalLaws
+pub mod CheckLaws

@@ -1,19 +1,20 @@
 // What a scan answers: the record's block and place, ` 4.1`, ` -` for absent, ` !13` for refusal 13. The marks may be
 // shown behind it, all 8, lent or not.
+use crate::records::refused;
 use header::Refusal;
 use lookup::Found;
 use test_lines::lines::{Buffer, Line, TABLE_SIZE, behind, part};
-use test_lines::print::{bytes, letter, number, refused};
+use test_lines::print::{bytes, letter, number, say};
 
 fn show(found: Result<Option<Found>, Refusal>) {
-    letter(b' ');
     match found {
         Ok(Some(found)) => {
+            letter(b' ');
             number(found.block);
             letter(b'.');
             number(found.place);
         }
-        Ok(None) => letter(b'-'),
+        Ok(None) => say(b" -"),
         Err(refusal) => refused(refusal),
     }
 }

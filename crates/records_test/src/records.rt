@@ -1,7 +1,14 @@
 // What a cursor answers, with each of its numbers. A record is shown as its block, place and moves, ` 4.1/0`, the end
 // as ` end 0.0/0*`, refusal 8 as ` !8 3.1/5`. A star stands behind a cursor that has ended.
 use cursor::{Cursor, Refused, Step};
-use test_lines::print::{letter, number, refused, say};
+use header::Refusal;
+use test_lines::print::{letter, number, say};
+
+// A refusal, ` !13`.
+pub fn refused(refusal: Refusal) {
+    say(b" !");
+    number(u8::from(refusal));
+}
 
 fn numbers(c: Cursor) {
     letter(b' ');
@@ -28,7 +35,6 @@ pub fn show(answer: Result<Step, Refused>) -> Cursor {
             cursor
         }
         Err(Refused { refusal, cursor }) => {
-            letter(b' ');
             refused(refusal);
             numbers(cursor);
             cursor

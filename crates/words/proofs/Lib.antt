@@ -10,3 +10,4 @@ pub mod SameLaws
 pub mod SignedLaws
 pub mod ZeroLaws
 pub mod ReplaceLaws
+pub mod TurnedLaws

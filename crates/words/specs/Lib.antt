@@ -3,4 +3,5 @@ pub mod Numbers
 pub mod Order
 pub mod Signed
 pub mod Zeros
+pub mod Steps
 pub mod Replace

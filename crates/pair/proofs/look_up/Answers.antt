@@ -10,11 +10,12 @@ use Rattle.pair.proofs.look_up.Goals as goal
 pub returns-in_err-check : goal.returns-in_err-check
 returns-in_err-check c =
     let v = c.args in
-    let p = c.in_err-check.ensures in
+    let p = c.check.ensures in
+    let refused = sym p.value ∙ c.in_err-check.was in
     record {
       value =
           leaves _ c.from_residual.ensures.1
-          ∙ sym (looked_up_refused v.table.now v.index.now v.key.now v.marks.now _ (sym p.value));
+          ∙ sym (looked_up_refused v.table.now v.index.now v.key.now v.marks.now _ refused);
       marks_after = p.marks_after;
       agreeing = λ z. apart cc;
     }
@@ -22,10 +23,11 @@ returns-in_err-check c =
 pub returns : goal.returns
 returns c =
     let v = c.args in
-    let p = c.in_ok-check.ensures in
+    let p = c.check.ensures in
+    let accepted = sym p.value ∙ c.in_ok-check.was in
     let w = c.walk.ensures.value in
     record {
-      value = w ∙ sym (looked_up_walked v.table.now v.index.now v.key.now v.marks.now (sym p.value));
+      value = w ∙ sym (looked_up_walked v.table.now v.index.now v.key.now v.marks.now accepted);
       marks_after = p.marks_after;
       agreeing = both_ways v.table.now v.index.now v.key.now v.marks.now c.walk.result w;
     }
