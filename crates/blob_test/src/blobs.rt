@@ -19,7 +19,7 @@ fn answer(blob: Result<Blob, Refusal>) {
         Ok(Blob::Blank) => say(b"blank"),
         Ok(Blob::InTable(place)) => part(b"table ", place),
         Ok(Blob::InMb(place)) => part(b"mb ", place),
-        Err(refusal) => refused(refusal),
+        Err(refusal) => refused(b"!", refusal),
     }
 }
 

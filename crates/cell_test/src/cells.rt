@@ -75,7 +75,7 @@ pub fn show(before: u8, table: &[u8], block: usize, place: usize, field: usize) 
     letter(before);
     match cell::read(table, block, place, field) {
         Ok(v) => value(v),
-        Err(refusal) => refused(refusal),
+        Err(refusal) => refused(b"!", refusal),
     }
     bytes(cell::text(table, block, place, field));
 }

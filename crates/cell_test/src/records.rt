@@ -37,7 +37,7 @@ fn records(table: &[u8], block: usize, fields: u16) {
     for place in 0..PLACES {
         begin(block, place);
         if let Some(refusal) = no_record(cell::read(table, block, place, 1)) {
-            refused(refusal);
+            refused(b"!", refusal);
             return;
         }
         record(table, block, place, fields);
@@ -54,7 +54,7 @@ pub fn list(table: &[u8]) {
         }
         Err(refusal) => {
             letter(b' ');
-            refused(refusal);
+            refused(b"!", refusal);
         }
     }
 }

@@ -1,5 +1,5 @@
 // The field area: a type byte and a width byte a field (rule 7).
-// The module is private: its functions are helpers of `header::judge`, which meets what they require.
+// The module is private: its functions are helpers of `answer::rest`, which meets what they require.
 ghost use Rattle.std.specs.Prelude.{◌≡◌, true, ◌+◌, ◌*◌, ◌≤◌, length, replicate};
 ghost use Rattle.words.specs.Each.{each};
 ghost use Rattle.header.specs.Fields.{offsets_of, pair_right};

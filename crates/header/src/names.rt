@@ -1,5 +1,5 @@
 // The field names: zero-ended, 1 to 25 bytes each, wholly inside the header (rule 7).
-// The module is private: its functions are helpers of `header::judge` and `Table::name`, which meet what they require.
+// The module is private: its functions are helpers of `answer::rest` and `Table::name`, which meet what they require.
 ghost use Rattle.std.specs.Prelude.{◌≡◌, true, suc, ◌≤◌, length};
 ghost use Rattle.header.specs.Fields.{name_length, name_start, names_fit};
 ghost use Rattle.header.specs.Steps.{next_name};

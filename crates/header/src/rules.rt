@@ -1,5 +1,6 @@
 // Table rules 2 to 6 as tests of the stored numbers, and the limits that they name. The module is private: its
-// functions are helpers of `header::judge`, which meets what they require. Those for 23 and 26 serve the index too.
+// functions are helpers of the two that try the rules, `front::limits` and `answer::rest`, which meet what they require.
+// Those for 23 and 26 serve the index too.
 ghost use Rattle.std.specs.Prelude.{◌≡◌, ◌+◌, ◌≤◌, ltb, length};
 ghost use Rattle.header.specs.Stored.{names_at};
 ghost use Rattle.header.specs.Header.{is_table, keyed_right, known_version, length_right, limits_kept};
@@ -46,7 +47,7 @@ pub fn known_version(version: u8) -> bool
     (LEAST_VERSION <= version) & (version <= MOST_VERSION)
 }
 
-// Rule 4, of the four bytes at a place. A helper of `header::judge` and no call for users: its caller has them there.
+// Rule 4, of the four bytes at a place. A helper of `front::limits` and no call for users: its caller has them there.
 pub fn is_unencrypted(t: &[u8], at: usize) -> bool
     requires { at + 4 ≤ length t.now }
     ensures { result ≡ unencrypted t.now at }
@@ -92,7 +93,7 @@ pub fn is_length_right(long: usize, header: u16, blocks: u16, units: u8) -> bool
 }
 
 // Whether the names begin inside the header: where they don't, rule 7 is broken and no field is read. A helper of
-// `header::judge` and no call for users: its caller has tried rule 5.
+// `answer::rest` and no call for users: its caller has tried rule 5.
 pub fn has_room(s: Stored) -> bool
     requires { s.fields ≤ most_fields }
     ensures { result ≡ ltb (names_at s) s.header_size }

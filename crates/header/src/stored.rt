@@ -1,5 +1,5 @@
 // The numbers of a header as they are stored: where each stands, and what depends on the version.
-// The module is private: its functions are helpers of `header::judge`, which meets what they require.
+// The module is private: its functions are helpers of `front::limits` and `answer::rest`, which meet what they require.
 ghost use Rattle.std.specs.Prelude.{◌≡◌, ◌+◌, ◌*◌, ◌≤◌, length};
 ghost use Rattle.header.specs.Stored.{area_at, encryption_at, names_at, stored_of, unit};
 ghost use Rattle.header.specs.Header.{least_header, most_fields, most_units};

@@ -30,7 +30,7 @@ pub fn show(table: &[u8], f: usize) {
             Some(field) => values(field),
             None => letter(b'-'),
         },
-        Err(refusal) => refused(refusal),
+        Err(refusal) => refused(b"!", refusal),
     }
 }
 

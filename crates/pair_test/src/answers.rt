@@ -16,7 +16,7 @@ fn show(found: Result<Option<Found>, Refusal>) {
             number(found.place);
         }
         Ok(None) => letter(b'-'),
-        Err(refusal) => refused(refusal),
+        Err(refusal) => refused(b"!", refusal),
     }
 }
 
@@ -31,7 +31,7 @@ pub fn reads(walk: Result<Walked, Refusal>) -> u8 {
 fn show_walk(walk: Result<Walked, Refusal>) {
     match walk {
         Ok(walked) => show(Ok(walked.found)),
-        Err(refusal) => refused(refusal),
+        Err(refusal) => refused(b"!", refusal),
     }
     letter(b'/');
     number(reads(walk));

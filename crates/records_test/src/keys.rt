@@ -1,10 +1,9 @@
 // What a scan answers: the record's block and place, ` 4.1`, ` -` for absent, ` !13` for refusal 13. The marks may be
 // shown behind it, all 8, lent or not.
-use crate::records::refused;
 use header::Refusal;
 use lookup::Found;
 use test_lines::lines::{Buffer, Line, TABLE_SIZE, behind, part};
-use test_lines::print::{bytes, letter, number, say};
+use test_lines::print::{bytes, letter, number, refused, say};
 
 fn show(found: Result<Option<Found>, Refusal>) {
     match found {
@@ -15,7 +14,7 @@ fn show(found: Result<Option<Found>, Refusal>) {
             number(found.place);
         }
         Ok(None) => say(b" -"),
-        Err(refusal) => refused(refusal),
+        Err(refusal) => refused(b" !", refusal),
     }
 }
 

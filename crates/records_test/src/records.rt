@@ -1,14 +1,7 @@
 // What a cursor answers, with each of its numbers. A record is shown as its block, place and moves, ` 4.1/0`, the end
 // as ` end 0.0/0*`, refusal 8 as ` !8 3.1/5`. A star stands behind a cursor that has ended.
 use cursor::{Cursor, Refused, Step};
-use header::Refusal;
-use test_lines::print::{letter, number, say};
-
-// A refusal, ` !13`.
-pub fn refused(refusal: Refusal) {
-    say(b" !");
-    number(u8::from(refusal));
-}
+use test_lines::print::{letter, number, refused, say};
 
 fn numbers(c: Cursor) {
     letter(b' ');
@@ -35,7 +28,7 @@ pub fn show(answer: Result<Step, Refused>) -> Cursor {
             cursor
         }
         Err(Refused { refusal, cursor }) => {
-            refused(refusal);
+            refused(b" !", refusal);
             numbers(cursor);
             cursor
         }

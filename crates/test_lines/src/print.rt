@@ -19,9 +19,9 @@ pub fn number<N: Into<u64>>(n: N) {
     io::print_decimal(STDOUT_FILENO, n.into());
 }
 
-// A refusal behind an exclamation mark, `!13`.
-pub fn refused(refusal: Refusal) {
-    letter(b'!');
+// A refusal behind its mark, `!13`.
+pub fn refused(mark: &[u8], refusal: Refusal) {
+    say(mark);
     number(u8::from(refusal));
 }
 
