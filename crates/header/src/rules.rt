@@ -1,6 +1,6 @@
 // Table rules 2 to 6 as tests of the stored numbers, and the limits that they name. The module is private: its
-// functions are helpers of the two that try the rules, `front::limits` and `answer::rest`, which meet what they require.
-// Those for 23 and 26 serve the index too.
+// functions are helpers of the two that try the rules, `front::limits` and `answer::rest`, which meet what they
+// require. Those for 23 and 26 serve the index too.
 ghost use Rattle.std.specs.Prelude.{◌≡◌, ◌+◌, ◌≤◌, ltb, length};
 ghost use Rattle.header.specs.Stored.{names_at};
 ghost use Rattle.header.specs.Header.{is_table, keyed_right, known_version, length_right, limits_kept};
